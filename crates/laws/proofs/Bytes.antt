@@ -1,0 +1,38 @@
+-- What holds of every number below n: a test that antt computes at each, and what it tells of one. By induction on n.
+use Prim.Native.Nat.{ℕ, zero, suc, _<_}
+use mathlib.Core.Path.{_≡_, refl, sym, subst}
+use mathlib.Core.Bool.{Bool, true, false, _&&_}
+use native.Mathlib.Nat.{not-suc-le-zero}
+use native.Mathlib.Decide.{ℕ-discrete}
+use native.Mathlib.Omega.{arith}
+use lib.Dec.{T}
+use Rattle.laws.proofs.Pick.{true-false}
+
+-- the test passes at each number below n
+abbrev pub eachBelow : (ℕ → Bool) → ℕ → Bool
+eachBelow f zero = true
+eachBelow f (suc n) = f n && eachBelow f n
+
+pub and-left : (a b : Bool) → T (a && b) → T a
+and-left true b t = tt
+and-left false b t = t
+
+pub and-right : (a b : Bool) → T (a && b) → T b
+and-right true b t = t
+and-right false b t = absurd t
+
+pub and-l : (a b : Bool) → a && b ≡ true → a ≡ true
+and-l true b e = refl
+and-l false b e = e
+
+pub and-r : (a b : Bool) → a && b ≡ true → b ≡ true
+and-r true b e = e
+and-r false b e = true-false (sym e)
+
+pub at : (f : ℕ → Bool) (n : ℕ) → T (eachBelow f n) → (k : ℕ) → k < n → T (f k)
+at f zero t k h = absurd (not-suc-le-zero h)
+at f (suc n) t k h = go (at f n (and-right (f n) (eachBelow f n) t) k) (ℕ-discrete k n)
+  where
+    go : (k < n → T (f k)) → Dec (k ≡ n) → T (f k)
+    go ih (yes e) = subst (λ (m : ℕ). T (f m)) (sym e) (and-left (f n) (eachBelow f n) t)
+    go ih (no e) = ih (omega arith)

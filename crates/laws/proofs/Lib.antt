@@ -1,0 +1,5 @@
+pub mod Pick
+pub mod First
+pub mod Lists
+pub mod Bits
+pub mod Bytes

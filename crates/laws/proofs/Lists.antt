@@ -1,0 +1,110 @@
+-- Laws of the lists of specs/Lists.antt, over the function that makes them. By induction on the list or on the count.
+use Prim.Native.Nat.{ℕ, zero, suc, _+_, _<_, _≤_}
+use mathlib.Core.Path.{_≡_, refl, sym, ap, _∙_}
+use mathlib.Core.Bool.{Bool, true, false}
+use mathlib.Core.List.{List, [], _∷_, _++_}
+use native.Mathlib.Omega.{arith}
+use native.Mathlib.Numerals.{add-one}
+use lib.ListN.{length, getD, set}
+use lib.Seq.{ext-getD}
+use lib.Dec.{eqb}
+use borrow.Author.Tests.{eq-eqb, ne-eqb}
+use Rattle.laws.specs.Pick.{pick}
+use Rattle.laws.specs.Lists.{tabulate, upTo, nonzero}
+
+-- ---- tabulate
+pub length-tabulate : (n : ℕ) (f : ℕ → ℕ) → length (tabulate n f) ≡ n
+unfolding tabulate
+length-tabulate zero f = refl
+length-tabulate (suc n) f = ap suc (length-tabulate n (λ i. f (suc i)))
+
+pub getD-tabulate : (n : ℕ) (f : ℕ → ℕ) (k : ℕ) → k < n → getD (tabulate n f) k 0 ≡ f k
+unfolding tabulate
+getD-tabulate zero f k h = omega arith
+getD-tabulate (suc n) f zero h = refl
+getD-tabulate (suc n) f (suc k) h = getD-tabulate n (λ i. f (suc i)) k (omega arith)
+
+-- a list whose elements are f's values is tabulated
+pub tabulate-ext : (xs : List ℕ) (n : ℕ) (f : ℕ → ℕ) → length xs ≡ n → ((k : ℕ) → k < n → getD xs k 0 ≡ f k) → xs ≡ tabulate n f
+tabulate-ext xs n f len all =
+    ext-getD 0 xs (tabulate n f) (len ∙ sym (length-tabulate n f))
+    (λ k h. let l : k < n = omega arith in all k l ∙ sym (getD-tabulate n f k l))
+
+-- ---- upTo: a slice that a loop fills
+pub length-upTo : (i : ℕ) (f : ℕ → ℕ) (ws : List ℕ) → length (upTo i f ws) ≡ length ws
+unfolding upTo
+length-upTo zero f ws = refl
+length-upTo (suc i) f [] = refl
+length-upTo (suc i) f (w ∷ ws) = ap suc (length-upTo i (λ k. f (suc k)) ws)
+
+upTo-suc : (i : ℕ) (f : ℕ → ℕ) (ws : List ℕ) → i < length ws → set (upTo i f ws) i (f i) ≡ upTo (suc i) f ws
+unfolding upTo
+upTo-suc i f [] h = absurd (omega arith)
+upTo-suc zero f (w ∷ ws) h = refl
+upTo-suc (suc i) f (w ∷ ws) h = ap (λ (l : List ℕ). f zero ∷ l) (upTo-suc i (λ k. f (suc k)) ws (omega arith))
+
+-- one element more
+pub upTo-more : (i : ℕ) (f : ℕ → ℕ) (ws : List ℕ) → i < length ws → set (upTo i f ws) i (f i) ≡ upTo (i + 1) f ws
+upTo-more i f ws h = rw add-one (upTo-suc i f ws h)
+
+-- from i on the list is as it was
+pub upTo-rest : (i : ℕ) (f : ℕ → ℕ) (ws : List ℕ) (k : ℕ) → i ≤ k → getD (upTo i f ws) k 0 ≡ getD ws k 0
+unfolding upTo
+upTo-rest zero f ws k h = refl
+upTo-rest (suc i) f [] k h = refl
+upTo-rest (suc i) f (w ∷ ws) zero h = absurd (omega arith)
+upTo-rest (suc i) f (w ∷ ws) (suc k) h = upTo-rest i (λ j. f (suc j)) ws k (omega arith)
+
+-- below i it is as f says
+pub upTo-below : (i : ℕ) (f : ℕ → ℕ) (ws : List ℕ) (k : ℕ) → k < i → k < length ws → getD (upTo i f ws) k 0 ≡ f k
+unfolding upTo
+upTo-below zero f ws k h l = absurd (omega arith)
+upTo-below (suc i) f [] k h l = absurd (omega arith)
+upTo-below (suc i) f (w ∷ ws) zero h l = refl
+upTo-below (suc i) f (w ∷ ws) (suc k) h l = upTo-below i (λ j. f (suc j)) ws k (omega arith) (omega arith)
+
+-- an element that f leaves
+pub upTo-kept : (i : ℕ) (f : ℕ → ℕ) (ws : List ℕ) → i < length ws → f i ≡ getD ws i 0 → upTo (suc i) f ws ≡ upTo i f ws
+unfolding upTo
+upTo-kept i f [] h e = absurd (omega arith)
+upTo-kept zero f (w ∷ ws) h e = ap (λ (x : ℕ). x ∷ ws) e
+upTo-kept (suc i) f (w ∷ ws) h e = ap (λ (l : List ℕ). f zero ∷ l) (upTo-kept i (λ k. f (suc k)) ws (omega arith) e)
+
+-- ---- nonzero: which elements are dropped, and that the others keep their order
+pub nonzero-zero : (x : ℕ) (xs : List ℕ) → x ≡ 0 → nonzero (x ∷ xs) ≡ nonzero xs
+unfolding nonzero
+nonzero-zero x xs e = rw (eq-eqb x 0 e)
+
+pub nonzero-kept : (x : ℕ) (xs : List ℕ) → (x ≡ 0 → ⊥) → nonzero (x ∷ xs) ≡ x ∷ nonzero xs
+unfolding nonzero
+nonzero-kept x xs n = rw (ne-eqb x 0 n)
+
+pub nonzero-append : (xs ys : List ℕ) → nonzero (xs ++ ys) ≡ nonzero xs ++ nonzero ys
+unfolding nonzero
+nonzero-append [] ys = refl
+nonzero-append (x ∷ xs) ys = go (eqb x 0) (nonzero-append xs ys)
+  where
+    go : (b : Bool) → nonzero (xs ++ ys) ≡ nonzero xs ++ nonzero ys → pick b (nonzero (xs ++ ys)) (x ∷ nonzero (xs ++ ys)) ≡ pick b (nonzero xs) (x ∷ nonzero xs) ++ nonzero ys
+    go true e = e
+    go false e = ap (λ (l : List ℕ). x ∷ l) e
+
+pub nonzero-length : (xs : List ℕ) → length (nonzero xs) ≤ length xs
+unfolding nonzero
+nonzero-length [] = omega arith
+nonzero-length (x ∷ xs) = go (eqb x 0) (nonzero-length xs)
+  where
+    go : (b : Bool) → length (nonzero xs) ≤ length xs → length (pick b (nonzero xs) (x ∷ nonzero xs)) ≤ suc (length xs)
+    go true h = omega arith
+    go false h = omega arith
+
+zeros-dropped : (n : ℕ) → nonzero (tabulate n (λ m. 0)) ≡ []
+unfolding nonzero tabulate
+zeros-dropped zero = refl
+zeros-dropped (suc n) = zeros-dropped n
+
+-- zeros after a list are dropped with its own
+pub pad-dropped : (xs : List ℕ) (n : ℕ) → length xs ≤ n → nonzero (tabulate n (λ m. getD xs m 0)) ≡ nonzero xs
+unfolding nonzero tabulate
+pad-dropped [] n h = zeros-dropped n
+pad-dropped (x ∷ xs) zero h = absurd (omega arith)
+pad-dropped (x ∷ xs) (suc n) h = rw (pad-dropped xs n (omega arith))

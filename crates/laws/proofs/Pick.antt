@@ -1,0 +1,73 @@
+-- How a proof reaches a picked case, and what a picked case tells. Closed by cases on the tests.
+use Prim.Native.Nat.{ℕ, _<_, _≤_}
+use mathlib.Core.Bool.{Bool, true, false, not}
+use mathlib.Core.Logic.{_⊎_, inl, inr}
+use mathlib.Core.Path.{_≡_, refl, sym, ap}
+use native.Mathlib.Omega.{arith}
+use native.Mathlib.Decide.{decLt}
+use borrow.Author.Tests.{eq-eqb, ne-eqb, eqb-true, not-false}
+use Rattle.laws.specs.Pick.{pick, both, differ}
+
+-- anything, of a number that is another
+pub never : {A : Type 0} → _≡_ {A = ℕ} 0 1 → A
+never e = absurd (omega arith)
+
+pub true-false : {A : Type 0} → true ≡ false → A
+true-false e = never (cc)
+
+-- `here` where the test holds, `past` where it does not
+pub here : {A : Type 0} {t : Bool} {x z : A} (y : A) → t ≡ true → z ≡ x → z ≡ pick t x y
+here {t = true} y e q = q
+here {t = false} y e q = true-false (sym e)
+
+pub past : {A : Type 0} {t : Bool} {y z : A} (x : A) → t ≡ false → z ≡ y → z ≡ pick t x y
+past {t = true} x e q = true-false e
+past {t = false} x e q = q
+
+-- a picked case that is not the first is the second
+pub passed : {A : Type 0} (t : Bool) (x y z : A) → (x ≡ z → ⊥) → pick t x y ≡ z → (t ≡ false) × (y ≡ z)
+passed true x y z n e = absurd (n e)
+passed false x y z n e = (refl, e)
+
+-- a test that holds, or does not
+pub split : {A : Type 0} (b : Bool) → (b ≡ true → A) → (b ≡ false → A) → A
+split true f g = f refl
+split false f g = g refl
+
+-- a number below another, or not
+pub below : (a b : ℕ) → (a < b) ⊎ (b ≤ a)
+below a b = go (decLt a b)
+  where
+    go : Dec (a < b) → (a < b) ⊎ (b ≤ a)
+    go (yes h) = inl h
+    go (no h) = inr (omega arith)
+
+-- ---- two tests
+pub both-left : (a b : Bool) → both a b ≡ true → a ≡ true
+unfolding both
+both-left true b e = refl
+both-left false b e = e
+
+pub both-right : (a b : Bool) → both a b ≡ true → b ≡ true
+unfolding both
+both-right true b e = e
+both-right false b e = true-false (sym e)
+
+pub both-true : (a b : Bool) → a ≡ true → b ≡ true → both a b ≡ true
+unfolding both
+both-true a b p q = rw (p, q)
+
+pub both-false : (a : Bool) → both a false ≡ false
+unfolding both
+both-false true = refl
+both-false false = refl
+
+-- ---- two numbers
+pub eq-differ : (a b : ℕ) → a ≡ b → differ a b ≡ false
+eq-differ a b e = ap not (eq-eqb a b e)
+
+pub ne-differ : (a b : ℕ) → (a ≡ b → ⊥) → differ a b ≡ true
+ne-differ a b n = ap not (ne-eqb a b n)
+
+pub differ-false : (a b : ℕ) → differ a b ≡ false → a ≡ b
+differ-false a b e = eqb-true a b (not-false _ e)

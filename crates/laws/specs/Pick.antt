@@ -1,0 +1,17 @@
+-- A case picked by a test: the only "if" of all definitions.
+use Prim.Native.Nat.{ℕ}
+use mathlib.Core.Bool.{Bool, true, false, not}
+use lib.Dec.{eqb}
+
+-- the first where the test holds, else the second
+abbrev pub pick : {A : Type 0} → Bool → A → A → A
+pick true a b = a
+pick false a b = b
+
+-- both tests hold
+unfoldable pub both : Bool → Bool → Bool
+both a b = pick a b false
+
+-- two numbers differ
+abbrev pub differ : ℕ → ℕ → Bool
+differ a b = not (eqb a b)

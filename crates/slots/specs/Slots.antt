@@ -1,0 +1,66 @@
+-- Fields of words by (word, lowest bit, width), and a table of them. A slot's key says whose number stands there.
+use Prim.Native.Nat.{ℕ, _+_, _-_, _*_, _^_}
+use mathlib.Core.Path.{_≡_}
+use mathlib.Core.Bool.{Bool, true, false}
+use mathlib.Core.List.{List, [], _∷_}
+use lib.ListN.{length, getD, set}
+use lib.Dec.{ltb, leb, eqb}
+use Rattle.laws.specs.Pick.{pick, both}
+use Rattle.laws.specs.Bits.{fieldOf, putField}
+
+pub record Slot (K : Type 0) : Type 0 where
+  pub word : ℕ
+  pub at : ℕ
+  pub span : ℕ
+  pub key : K
+
+-- the number in a slot, and the words with another one there
+unfoldable pub get : {K : Type 0} → Slot K → List ℕ → ℕ
+get s ws = fieldOf (getD ws (s .word) 0) (s .at) (s .span)
+
+unfoldable pub put : {K : Type 0} → Slot K → ℕ → List ℕ → List ℕ
+put s v ws = set ws (s .word) (putField (getD ws (s .word) 0) (s .at) (s .span) v)
+
+-- the slot's bits as a mask
+unfoldable pub mask : {K : Type 0} → Slot K → ℕ
+mask s = (2 ^ s .span - 1) * 2 ^ s .at
+
+-- all of a table, by a value for each key
+unfoldable pub putAll : {K : Type 0} → List (Slot K) → (K → ℕ) → List ℕ → List ℕ
+putAll [] v ws = ws
+putAll (s ∷ ss) v ws = put s (v (s .key)) (putAll ss v ws)
+
+-- the slots whose keys pass a test
+unfoldable pub those : {K : Type 0} → (K → Bool) → List (Slot K) → List (Slot K)
+those t [] = []
+those t (s ∷ ss) = pick (t (s .key)) (s ∷ those t ss) (those t ss)
+
+-- each value is below the bound of its slot
+unfoldable pub fits : {K : Type 0} → List (Slot K) → (K → ℕ) → Bool
+fits [] v = true
+fits (s ∷ ss) v = both (ltb (v (s .key)) (2 ^ s .span)) (fits ss v)
+
+-- no bit in two slots
+unfoldable pub apart : {K L : Type 0} → Slot K → Slot L → Bool
+apart s t =
+    pick (eqb (s .word) (t .word)) (pick (leb (s .at + s .span) (t .at)) true (leb (t .at + t .span) (s .at))) true
+
+-- no bit of a slot in a table
+unfoldable pub clear : {K L : Type 0} → Slot K → List (Slot L) → Bool
+clear s [] = true
+clear s (t ∷ ts) = both (apart s t) (clear s ts)
+
+-- no bit twice in a table
+unfoldable pub sound : {K : Type 0} → List (Slot K) → Bool
+sound [] = true
+sound (s ∷ ss) = both (clear s ss) (sound ss)
+
+-- each slot lies in the first n words
+unfoldable pub low : {K : Type 0} → ℕ → List (Slot K) → Bool
+low n [] = true
+low n (s ∷ ss) = both (ltb (s .word) n) (low n ss)
+
+-- each slot holds its value
+unfoldable pub reads : {K : Type 0} → List (Slot K) → (K → ℕ) → List ℕ → Type 0
+reads [] v ws = Unit {0}
+reads (s ∷ ss) v ws = (get s ws ≡ v (s .key)) × reads ss v ws

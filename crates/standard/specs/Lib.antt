@@ -1,0 +1,9 @@
+pub mod Heads
+pub mod Reading
+pub mod Formed
+pub mod Walk
+pub mod Packet
+pub mod Place
+pub mod Words
+pub mod Lists
+pub mod Cases

@@ -1,0 +1,141 @@
+-- FRESH MESSAGES, SETTINGS ON WORDS, WRITING A RECORD: the answer, and the whole buffer afterwards.
+use Prim.Native.Nat.{ℕ, _+_, _*_, _/_}
+use mathlib.Core.Bool.{Bool, true, false, not}
+use mathlib.Core.List.{List, [], _∷_}
+use lib.ListN.{length, getD}
+use lib.Dec.{ltb, eqb}
+use Rattle.laws.specs.Pick.{pick}
+use Rattle.counts.specs.Counts.{packet}
+use Rattle.slots.specs.Slots.{Slot, putAll, fits}
+use Rattle.utf8.specs.Utf8.{firstBad}
+use Rattle.text.specs.Octets.{needed}
+use Rattle.text.specs.Written.{written, blank, eachFirst}
+use Rattle.kinds.specs.declared.refusal.Refusal.{Refusal}
+use Rattle.kinds.specs.declared.refusal.Refusal.the-variants.{TooFewWords, TooManyPackets, WrongType, UnknownStatus, NotUtf8, NumberTooLarge, NoSuchField, NoRoom}
+use Rattle.kinds.specs.declared.message.Kind.{Kind}
+use Rattle.kinds.specs.declared.message.Known.{Known}
+use Rattle.kinds.specs.declared.message.Known.the-variants.{Is, Unknown}
+use Rattle.kinds.specs.declared.message.Message.{Message}
+use Rattle.kinds.specs.declared.answers.Walked.{Walked}
+use Rattle.kinds.specs.declared.answers.Walked.the-variants as W
+use Rattle.kinds.specs.declared.answers.Answer.{Answer}
+use Rattle.kinds.specs.declared.answers.Answer.the-variants as A
+use Rattle.kinds.specs.Fields.{Field, Setting, fieldIn, valueIn, textIn, start}
+use Rattle.kinds.specs.Layout.{Part, Body, fixed, texts, Row, layout, capacityIn, kindOf, slotsOf, isText, parts, valuesIn}
+use Rattle.kinds.specs.Records.{kindIn, packetsIn, valuesOf}
+use Rattle.kinds.specs.Settings.{lacks, tooLarge}
+use Rattle.standard.specs.Heads.{headWord, packetsOf}
+use Rattle.standard.specs.Reading.{isBad}
+use Rattle.standard.specs.Walk.{walkOf}
+
+-- what a call that is lent a buffer leaves: its answer, and the words afterwards
+pub record Left : Type 0 where
+  pub answer : Answer
+  pub words : List ℕ
+
+abbrev pub left : Answer → List ℕ → Left
+left a ws = record { answer = a; words = ws }
+
+-- refused: no word is changed
+abbrev pub unchanged : Refusal → List ℕ → Left
+unchanged r ws = left (A.Refused r) ws
+
+-- no whole packet in the buffer
+abbrev pub noPacket : List ℕ → Bool
+noPacket ws = eqb (packetsOf ws) 0
+
+-- ---- fresh
+-- every whole packet zero, then type, Complete and status, and the starting values
+unfoldable pub fresh : Kind → List ℕ → List ℕ
+fresh k ws = putAll (layout k .fields) (parts start) (blank (headWord (layout k .status) 0) ws)
+
+-- refusals 5, then 14
+abbrev pub freshKnown : Known → List ℕ → Left
+freshKnown Unknown ws = unchanged UnknownStatus ws
+freshKnown (Is k) ws = pick (noPacket ws) (unchanged NoRoom ws) (left A.Done (fresh k ws))
+
+unfoldable pub freshOn : ℕ → List ℕ → Left
+freshOn status ws = freshKnown (kindOf status) ws
+
+-- ---- THE BUFFER that a value for each field gives
+-- a table put into one word
+unfoldable pub putWord : List (Slot Part) → (Part → ℕ) → ℕ → ℕ
+putWord t v w = getD (putAll t v (w ∷ [])) 0 0
+
+-- the head of a text packet by its format: type, format, status, and the fields
+abbrev pub headOf : Row → (Field → List ℕ) → ℕ → ℕ
+headOf r v format = putWord (r .fields) (parts v) (headWord (r .status) format)
+
+-- text with its head in each needed packet, and zeros in every whole packet after them
+abbrev pub textWritten : Row → ℕ → (Field → List ℕ) → List ℕ → List ℕ → List ℕ
+textWritten r cap v text ws = written ws text (headOf r v) cap (needed cap (length text))
+
+unfoldable pub encodeIn : Body → Row → List ℕ → (Field → List ℕ) → List ℕ
+encodeIn fixed r ws v = putAll (r .fields) (parts v) (blank (headWord (r .status) 0) ws)
+encodeIn (texts t from) r ws v = textWritten r (capacityIn (texts t from)) v (v (Field.text t)) ws
+
+unfoldable pub encode : Kind → List ℕ → (Field → List ℕ) → List ℕ
+encode k ws v = encodeIn (layout k .body) (layout k) ws v
+
+-- ---- settings on words
+-- the kind has no such field
+abbrev pub missing : Row → Setting → Bool
+missing r s = pick (isText (fieldIn s) (r .body)) false (lacks (r .fields) s)
+
+-- packets that the setting needs: one, where it sets no text
+abbrev pub neededBy : Row → Setting → ℕ
+neededBy r s = needed (capacityIn (r .body)) (length (textIn s))
+
+-- refusals 13, 12, 11, 3, 14: by the row, the whole packets of the buffer and the setting alone
+unfoldable pub answerTo : Row → ℕ → Setting → Answer
+answerTo r room s =
+    pick (missing r s) (A.Refused NoSuchField)
+    (pick (tooLarge (r .fields) s) (A.Refused NumberTooLarge)
+    (pick (isBad (firstBad (textIn s))) (A.Refused NotUtf8)
+    (pick (ltb 64 (neededBy r s)) (A.Refused TooManyPackets)
+    (pick (ltb room (neededBy r s)) (A.Refused NoRoom)
+    A.Done))))
+
+-- the field's slots put into a packet
+abbrev pub putSetting : Row → Setting → List ℕ → List ℕ
+putSetting r s ws = putAll (slotsOf (fieldIn s) (r .fields)) (parts (λ f. valueIn s)) ws
+
+-- what an accepted setting does to the message of n packets at position 0: a text keeps the fields of its head, a head's field goes into each packet and none after
+unfoldable pub actIn : Body → Row → ℕ → Setting → List ℕ → List ℕ
+actIn fixed r n s ws = putSetting r s ws
+actIn (texts t from) r n s ws =
+    pick (isText (fieldIn s) (texts t from)) (textWritten r (capacityIn (texts t from)) (valuesIn (r .fields) ws) (textIn s) ws)
+    (eachFirst n (putWord (slotsOf (fieldIn s) (r .fields)) (parts (λ f. valueIn s))) ws)
+
+abbrev pub afterAnswer : Answer → Row → ℕ → Setting → List ℕ → List ℕ
+afterAnswer A.Done r n s ws = actIn (r .body) r n s ws
+afterAnswer (A.Refused why) r n s ws = ws
+
+unfoldable pub setMessage : Message → Setting → List ℕ → Left
+setMessage m s ws =
+    left (answerTo (layout (kindIn m)) (packetsOf ws) s)
+    (afterAnswer (answerTo (layout (kindIn m)) (packetsOf ws) s) (layout (kindIn m)) (packetsIn m) s ws)
+
+-- what the walk refuses at 0 comes first; another type there is refusal 4 at place 0, an empty slice refusal 1
+abbrev pub setWalked : Walked → Setting → List ℕ → Left
+setWalked W.End s ws = unchanged TooFewWords ws
+setWalked (W.Other t size next) s ws = unchanged (WrongType (packet 0)) ws
+setWalked (W.Refused r next) s ws = unchanged r ws
+setWalked (W.Message m next) s ws = setMessage m s ws
+
+-- A SETTING ON WORDS
+unfoldable pub setOn : Setting → List ℕ → Left
+setOn s ws = setWalked (walkOf ws 0) s ws
+
+-- ---- writing a record of a fixed kind
+abbrev pub hasText : Body → Bool
+hasText fixed = false
+hasText (texts t from) = true
+
+-- refusals 13 for a text kind, 12, 14; else the fresh message with the record's fields
+unfoldable pub writeOn : Message → List ℕ → Left
+writeOn m ws =
+    pick (hasText (layout (kindIn m) .body)) (unchanged NoSuchField ws)
+    (pick (not (fits (layout (kindIn m) .fields) (parts (valuesOf m)))) (unchanged NumberTooLarge ws)
+    (pick (noPacket ws) (unchanged NoRoom ws)
+    (left A.Done (encode (kindIn m) ws (valuesOf m)))))

@@ -1,0 +1,56 @@
+-- What stands at each word of a buffer that text was written into. Closed by the laws of `upTo`.
+use Prim.Native.Nat.{ℕ, _+_, _-_, _*_, _/_, _%_, _<_, _≤_}
+use mathlib.Core.Path.{_≡_, refl, sym, ap, _∙_}
+use mathlib.Core.List.{List}
+use native.Mathlib.Omega.{arith}
+use lib.ListN.{length, getD}
+use borrow.Author.Tests.{lt-ltb, le-ltb}
+use Rattle.laws.specs.Lists.{upTo}
+use Rattle.laws.proofs.Lists.{length-upTo, upTo-below, upTo-rest}
+use Rattle.text.specs.Octets.{octetOf, due}
+use Rattle.text.specs.Written.{headOctet, octetAt, wordIn, wordNew, wholeWords, written, blank}
+
+module _ (text : List ℕ) (head : ℕ → ℕ) (cap n : ℕ) where
+  pub octet-head : (p j : ℕ) → j < 16 - cap → octetAt text head cap n p j ≡ headOctet (head (due n p)) j
+  unfolding octetAt
+  octet-head p j h = simp (lt-ltb j (16 - cap) h)
+
+  pub octet-text : (p j : ℕ) → 16 - cap ≤ j → octetAt text head cap n p j ≡ getD text (p * cap + (j - (16 - cap))) 0
+  unfolding octetAt
+  octet-text p j h = simp (le-ltb j (16 - cap) h)
+
+  pub word-text : (k : ℕ) → k < n * 4 → wordNew text head cap n k ≡ wordIn text head cap n (k / 4) (k % 4)
+  unfolding wordNew
+  word-text k h = simp (lt-ltb k (n * 4) h)
+
+  pub word-zero : (k : ℕ) → n * 4 ≤ k → wordNew text head cap n k ≡ 0
+  unfolding wordNew
+  word-zero k h = simp (le-ltb k (n * 4) h)
+
+  module _ (ws : List ℕ) where
+    pub length-written : length (written ws text head cap n) ≡ length ws
+    unfolding written
+    length-written = length-upTo _ _ ws
+
+    pub at-whole : (k : ℕ) → k < wholeWords ws → getD (written ws text head cap n) k 0 ≡ wordNew text head cap n k
+    unfolding written
+    at-whole k h = upTo-below _ _ ws k h (omega arith)
+
+    pub at-rest : (k : ℕ) → wholeWords ws ≤ k → getD (written ws text head cap n) k 0 ≡ getD ws k 0
+    unfolding written
+    at-rest k h = upTo-rest _ _ ws k h
+
+    -- word q of packet p
+    pub word-at : (p q : ℕ) → n * 4 ≤ length ws → p < n → q < 4 → getD (written ws text head cap n) (p * 4 + q) 0 ≡ wordIn text head cap n p q
+    word-at p q hw hp hq =
+        let e : (p * 4 + q) / 4 ≡ p = omega arith in
+        let m : (p * 4 + q) % 4 ≡ q = omega arith in
+        at-whole (p * 4 + q) (omega arith) ∙ word-text (p * 4 + q) (omega arith) ∙ rw (e, m)
+
+pub length-blank : (head : ℕ) (ws : List ℕ) → length (blank head ws) ≡ length ws
+unfolding blank
+length-blank head ws = length-upTo _ _ ws
+
+pub blank-first : (head : ℕ) (ws : List ℕ) → 4 ≤ length ws → getD (blank head ws) 0 0 ≡ head
+unfolding blank
+blank-first head ws l = upTo-below _ _ ws 0 (omega arith) (omega arith)

@@ -1,0 +1,35 @@
+-- Text handed out a byte at a time: the step from a text place.
+use Prim.Native.Nat.{ℕ, suc, _+_, _*_, _/_, _%_}
+use mathlib.Core.List.{List, [], _∷_}
+use lib.ListN.{length, drop}
+use lib.Dec.{leb, eqb}
+use Rattle.laws.specs.Pick.{pick}
+use Rattle.counts.specs.Counts.{packet, byte}
+use Rattle.text.specs.Bytes.{allBytes}
+use Rattle.text.specs.declared.TextPlace.{TextPlace}
+use Rattle.text.specs.declared.TextStep.{TextStep}
+use Rattle.text.specs.declared.TextStep.the-variants.{Byte, End}
+use Rattle.text.specs.declared.Stepped.{Stepped}
+
+-- the place of byte m, counted over the text bytes of all packets
+abbrev pub placeOf : ℕ → ℕ → TextPlace
+placeOf cap m = record { packet = packet (m / cap); byte = byte (m % cap) }
+
+-- and back
+abbrev pub byteFrom : ℕ → TextPlace → ℕ
+byteFrom cap at = at .packet .0 * cap + at .byte .0
+
+abbrev pub stepped : TextStep → TextPlace → Stepped
+stepped s at = record { step = s; place = at }
+
+-- of the bytes from byte m on, the first that is not zero and the place after it; else the end, after them all
+unfoldable pub seek : ℕ → List ℕ → ℕ → Stepped
+seek cap [] m = stepped End (placeOf cap m)
+seek cap (x ∷ xs) m = pick (eqb x 0) (seek cap xs (suc m)) (stepped (Byte x) (placeOf cap (suc m)))
+
+-- a place with its packet at or past the count, or its byte at or past the capacity, is the end and does not move
+unfoldable pub stepAt : List ℕ → ℕ → TextPlace → Stepped
+stepAt ws cap at =
+    pick (leb (length ws / 4) (at .packet .0)) (stepped End at)
+    (pick (leb cap (at .byte .0)) (stepped End at)
+    (seek cap (drop (byteFrom cap at) (allBytes ws cap (length ws / 4))) (byteFrom cap at)))

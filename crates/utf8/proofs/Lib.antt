@@ -1,0 +1,3 @@
+pub mod Valid
+pub mod Zeros
+pub mod Small
