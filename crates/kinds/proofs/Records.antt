@@ -1,7 +1,9 @@
 -- A record's values give the record back, and the choices' codes the choices. Closed by cases.
-use Prim.Native.Nat.{ℕ, _<_}
+use Prim.Native.Nat.{ℕ, zero, suc, _+_, _*_, _/_, _%_, _<_}
 use mathlib.Core.Path.{_≡_, refl, ap}
 use mathlib.Core.Bool.{Bool, true, false}
+use mathlib.Core.Logic.{_≢_}
+use native.Mathlib.Omega.{arith}
 use lib.Dec.{eqb}
 use Rattle.laws.specs.Pick.{pick}
 use Rattle.kinds.specs.declared.function_block_info.UiHint.{UiHint}
@@ -35,6 +37,53 @@ pub direction-back : (d : Direction) → directionOf (directionCode d) ≡ d
 direction-back D.Input = refl
 direction-back D.Output = refl
 direction-back D.Bidirectional = refl
+
+-- ---- a code gives the choice that gives it back, where there is such a choice
+pub flag-bit : (x : ℕ) → x < 2 → x ≡ bit (eqb x 1)
+flag-bit zero h = refl
+flag-bit (suc zero) h = refl
+flag-bit (suc (suc x)) h = absurd (omega arith)
+
+pub code-hint : (x : ℕ) → x < 4 → x ≡ hintCode (hintOf x)
+code-hint zero h = refl
+code-hint (suc zero) h = refl
+code-hint (suc (suc zero)) h = refl
+code-hint (suc (suc (suc zero))) h = refl
+code-hint (suc (suc (suc (suc x)))) h = absurd (omega arith)
+
+pub code-port : (x : ℕ) → x < 4 → x ≢ 3 → x ≡ portCode (portOf x)
+code-port zero h n = refl
+code-port (suc zero) h n = refl
+code-port (suc (suc zero)) h n = refl
+code-port (suc (suc (suc zero))) h n = absurd (n refl)
+code-port (suc (suc (suc (suc x)))) h n = absurd (omega arith)
+
+pub code-direction : (x : ℕ) → x < 4 → x ≢ 0 → x ≡ directionCode (directionOf x)
+code-direction zero h n = absurd (n refl)
+code-direction (suc zero) h n = refl
+code-direction (suc (suc zero)) h n = refl
+code-direction (suc (suc (suc zero))) h n = refl
+code-direction (suc (suc (suc (suc x)))) h n = absurd (omega arith)
+
+pub no-code-port : (p : Midi1Port) → portCode p ≢ 3
+no-code-port P.None e = omega arith
+no-code-port P.DontRestrictBandwidth e = omega arith
+no-code-port P.RestrictBandwidth e = omega arith
+
+pub no-code-direction : (d : Direction) → directionCode d ≢ 0
+no-code-direction D.Input e = omega arith
+no-code-direction D.Output e = omega arith
+no-code-direction D.Bidirectional e = omega arith
+
+-- ---- the septets of a pair
+pub pair-low : (lo hi : ℕ) → lo < 128 → lo ≡ (lo + hi * 128) % 128
+pair-low lo hi h = omega arith
+
+pub pair-high : (lo hi : ℕ) → lo < 128 → hi ≡ (lo + hi * 128) / 128
+pair-high lo hi h = omega arith
+
+pub pair-back : (x : ℕ) → x % 128 + x / 128 * 128 ≡ x
+pair-back x = omega arith
 
 -- no value of a record is lost
 pub record-back : (m : Message) → recordOf (kindIn m) (packetsIn m) (valuesOf m) ≡ m

@@ -5,6 +5,8 @@ use mathlib.Core.Bool.{Bool, true, false}
 use mathlib.Core.Logic.{_⊎_, inl, inr, ⊎-elim, _≢_}
 use mathlib.Core.List.{List, [], _∷_}
 use native.Mathlib.Omega.{arith}
+use native.Mathlib.Nat.{mod-lt}
+use lib.Pow.{pow-pos}
 use lib.ListN.{length, getD, set, length-set}
 use lib.Seq.{getD-set-same, getD-set-other, set-set, set-comm, set-out, set-getD}
 use lib.Dec.{ltb, leb, eqb}
@@ -89,6 +91,11 @@ get-apart s t v ws a h =
 pub put-kept : {K : Type 0} (s : Slot K) (v : ℕ) (ws : List ℕ) → get s ws ≡ v → put s v ws ≡ ws
 unfolding put get
 put-kept s v ws e = ap (λ (x : ℕ). set ws (s .word) x) (put-back (getD ws (s .word) 0) (s .at) (s .span) v e) ∙ set-getD ws (s .word) 0
+
+-- a number in a slot is below the slot's bound
+pub get-small : {K : Type 0} (s : Slot K) (ws : List ℕ) → get s ws < 2 ^ s .span
+unfolding get
+get-small s ws = mod-lt _ (pow-pos (s .span))
 
 -- ---- a table
 pub length-putAll : {K : Type 0} (ss : List (Slot K)) (v : K → ℕ) (ws : List ℕ) → length (putAll ss v ws) ≡ length ws

@@ -1,0 +1,51 @@
+-- The line of each answer of the walk. A line starts with the word position; single spaces; every line ends in a newline.
+use Prim.Native.Nat.{ℕ, _/_}
+use mathlib.Core.List.{List, [], _∷_, _++_}
+use Rattle.text.specs.Bytes.{textOf}
+use Rattle.kinds.specs.declared.message.Kind.{Kind}
+use Rattle.kinds.specs.declared.message.Kind.the-variants as K
+use Rattle.kinds.specs.declared.message.Message.{Message}
+use Rattle.kinds.specs.declared.answers.Walked.{Walked}
+use Rattle.kinds.specs.declared.answers.Walked.the-variants as W
+use Rattle.kinds.specs.Refusals.{numberOf, placeOf}
+use Rattle.kinds.specs.Layout.{Body, fixed, texts, layout, capacityIn}
+use Rattle.kinds.specs.Records.{kindIn, packetsIn, numbersIn}
+use Rattle.standard.specs.Walk.{part}
+use Rattle.lines.specs.Ascii.{ascii}
+use Rattle.lines.specs.Numbers.{decimal, numbers, shown}
+
+unfoldable pub nameOf : Kind → List ℕ
+nameOf K.EndpointDiscovery = ascii "endpoint-discovery"
+nameOf K.EndpointInfo = ascii "endpoint-info"
+nameOf K.DeviceIdentity = ascii "device-identity"
+nameOf K.EndpointName = ascii "endpoint-name"
+nameOf K.ProductInstanceId = ascii "product-instance-id"
+nameOf K.FunctionBlockInfo = ascii "function-block-info"
+nameOf K.FunctionBlockName = ascii "function-block-name"
+
+-- the text of n packets, of a kind that has one
+abbrev pub textShown : Body → ℕ → List ℕ → List ℕ
+textShown fixed n ws = []
+textShown (texts t from) n ws = ascii " " ++ shown (textOf ws (capacityIn (texts t from)) n)
+
+-- kind name, packets, fields in table order, text; `ws` are the message's words
+abbrev pub messageShown : Message → List ℕ → List ℕ
+messageShown m ws =
+    ascii " " ++ nameOf (kindIn m) ++ numbers (packetsIn m ∷ numbersIn m) ++ textShown (layout (kindIn m) .body) (packetsIn m) ws
+
+-- another type: its type and size; a refusal: its number and place
+abbrev pub answerShown : Walked → List ℕ → ℕ → List ℕ
+answerShown W.End ws pos = []
+answerShown (W.Other t size next) ws pos = ascii " other" ++ numbers (t ∷ size .0 ∷ [])
+answerShown (W.Message m next) ws pos = messageShown m (part ws pos (packetsIn m))
+answerShown (W.Refused r next) ws pos = ascii " refused" ++ numbers (numberOf r ∷ placeOf r ∷ [])
+
+abbrev pub lineOf : Walked → List ℕ → ℕ → List ℕ
+lineOf a ws pos = decimal pos ++ answerShown a ws pos ++ ascii "\n"
+
+-- the last line: whole words, leftover bytes
+abbrev pub endLine : ℕ → ℕ → List ℕ
+endLine words leftover = ascii "end" ++ numbers (words ∷ leftover ∷ []) ++ ascii "\n"
+
+abbrev pub tooLong : List ℕ
+tooLong = ascii "input too long\n"

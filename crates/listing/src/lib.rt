@@ -1,0 +1,1 @@
+// The listing: big-endian words, the walk over them, and a line for each of its answers.
