@@ -3,6 +3,7 @@ use Prim.Native.Nat.{ℕ, zero, suc, _+_, _*_, _/_, _%_, _<_}
 use mathlib.Core.Path.{_≡_, refl, ap}
 use mathlib.Core.Bool.{Bool, true, false}
 use mathlib.Core.Logic.{_≢_}
+use mathlib.Core.List.{List, [], _∷_}
 use native.Mathlib.Omega.{arith}
 use lib.Dec.{eqb}
 use Rattle.laws.specs.Pick.{pick}
@@ -15,7 +16,7 @@ use Rattle.kinds.specs.declared.function_block_info.Direction.the-varian
 use Rattle.kinds.specs.declared.message.Message.{Message}
 use Rattle.kinds.specs.declared.message.Message.the-variants as M
 use Rattle.kinds.specs.Choices.{hintCode, hintOf, portCode, portOf, directionCode, directionOf}
-use Rattle.kinds.specs.Fields.{bit, same, decided}
+use Rattle.kinds.specs.Fields.{Field, Pair, bit, same, decided, partOf, joined}
 use Rattle.kinds.specs.Records.{kindIn, packetsIn, recordOf, fieldsIn, lookup, valuesOf}
 
 pub bit-flag : (b : Bool) → eqb (bit b) 1 ≡ b
@@ -84,6 +85,11 @@ pair-high lo hi h = omega arith
 
 pub pair-back : (x : ℕ) → x % 128 + x / 128 * 128 ≡ x
 pair-back x = omega arith
+
+-- they are put and read in the same order
+pub pair-joined : (p : Pair) (x : ℕ) → joined (Field.pair p) (partOf (Field.pair p) (x ∷ []) 0 ∷ partOf (Field.pair p) (x ∷ []) 1 ∷ []) ≡ x ∷ []
+unfolding joined partOf
+pair-joined p x = ap (λ (y : ℕ). y ∷ []) (pair-back x)
 
 -- no value of a record is lost
 pub record-back : (m : Message) → recordOf (kindIn m) (packetsIn m) (valuesOf m) ≡ m
