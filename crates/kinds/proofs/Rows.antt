@@ -7,9 +7,9 @@ use native.Mathlib.Omega.{arith}
 use Rattle.laws.specs.Pick.{both}
 use Rattle.laws.specs.Lists.{map, each}
 use Rattle.slots.specs.Slots.{Slot, mask, sound, clear, low, apart}
-use Rattle.kinds.specs.declared.message.Kind.{Kind}
-use Rattle.kinds.specs.declared.message.Kind.the-variants as K
-use Rattle.kinds.specs.declared.message.Known.the-variants.{Is}
+use Rattle.kinds.specs.declared.kind.Kind.{Kind}
+use Rattle.kinds.specs.declared.kind.Kind.the-variants as K
+use Rattle.kinds.specs.declared.kind.Known.the-variants.{Is}
 use Rattle.kinds.specs.Fields.{Field}
 use Rattle.kinds.specs.Layout.{Part, layout, kindOf, among, right, rightBody, discoveryFields, infoFields, identityFields, blockFields, nameFields}
 

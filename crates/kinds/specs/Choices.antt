@@ -2,14 +2,14 @@
 use Prim.Native.Nat.{ℕ}
 use lib.Dec.{eqb}
 use Rattle.laws.specs.Pick.{pick}
-use Rattle.kinds.specs.declared.function_block_info.UiHint.{UiHint}
-use Rattle.kinds.specs.declared.function_block_info.UiHint.the-variants as H
-use Rattle.kinds.specs.declared.function_block_info.Midi1Port.{Midi1Port}
-use Rattle.kinds.specs.declared.function_block_info.Midi1Port.the-variants as P
-use Rattle.kinds.specs.declared.function_block_info.Direction.{Direction}
-use Rattle.kinds.specs.declared.function_block_info.Direction.the-variants as D
-use Rattle.kinds.specs.declared.packet.Format.{Format}
-use Rattle.kinds.specs.declared.packet.Format.the-variants as F
+use Rattle.kinds.specs.declared.choices.UiHint.{UiHint}
+use Rattle.kinds.specs.declared.choices.UiHint.the-variants as H
+use Rattle.kinds.specs.declared.choices.Midi1Port.{Midi1Port}
+use Rattle.kinds.specs.declared.choices.Midi1Port.the-variants as P
+use Rattle.kinds.specs.declared.choices.Direction.{Direction}
+use Rattle.kinds.specs.declared.choices.Direction.the-variants as D
+use Rattle.kinds.specs.declared.choices.Format.{Format}
+use Rattle.kinds.specs.declared.choices.Format.the-variants as F
 
 -- hint: 0 undeclared, 1 receiver, 2 sender, 3 both
 abbrev pub hintCode : UiHint → ℕ

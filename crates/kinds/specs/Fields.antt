@@ -5,9 +5,9 @@ use mathlib.Core.List.{List, [], _∷_}
 use lib.ListN.{getD}
 use lib.Dec.{eqb}
 use Rattle.laws.specs.Pick.{pick}
-use Rattle.kinds.specs.declared.function_block_info.UiHint.{UiHint}
-use Rattle.kinds.specs.declared.function_block_info.Midi1Port.{Midi1Port}
-use Rattle.kinds.specs.declared.function_block_info.Direction.{Direction}
+use Rattle.kinds.specs.declared.choices.UiHint.{UiHint}
+use Rattle.kinds.specs.declared.choices.Midi1Port.{Midi1Port}
+use Rattle.kinds.specs.declared.choices.Direction.{Direction}
 use Rattle.kinds.specs.Choices.{hintCode, portCode, directionCode}
 
 -- yes or no

@@ -8,10 +8,10 @@ use lib.Dec.{eqb, leb}
 use Rattle.laws.specs.Pick.{pick, both}
 use Rattle.laws.specs.Lists.{map}
 use Rattle.slots.specs.Slots.{Slot, get, those, clear, sound, low}
-use Rattle.kinds.specs.declared.message.Kind.{Kind}
-use Rattle.kinds.specs.declared.message.Kind.the-variants as K
-use Rattle.kinds.specs.declared.message.Known.{Known}
-use Rattle.kinds.specs.declared.message.Known.the-variants.{Is, Unknown}
+use Rattle.kinds.specs.declared.kind.Kind.{Kind}
+use Rattle.kinds.specs.declared.kind.Kind.the-variants as K
+use Rattle.kinds.specs.declared.kind.Known.{Known}
+use Rattle.kinds.specs.declared.kind.Known.the-variants.{Is, Unknown}
 use Rattle.kinds.specs.Fields.{Flag, Number, Pair, Text, Field, same, start, partOf, joined}
 
 -- whose number stands in a slot, and which of the field's numbers

@@ -2,6 +2,3 @@ pub mod Refusals
 pub mod Choices
 pub mod Fields
 pub mod Layout
-pub mod Records
-pub mod Settings
-pub mod Answers

@@ -11,7 +11,7 @@ use Rattle.text.specs.Octets.{octetOf, due}
 use Rattle.text.specs.Bytes.{textByte, allBytes}
 use Rattle.kinds.specs.Fields.{decided, same, start, joined}
 use Rattle.kinds.specs.Layout.{layout, among, held, valuesIn}
-use Rattle.kinds.specs.Records.{recordOf, fieldsIn, lookup, firstPart}
+use Rattle.records.specs.Records.{recordOf, fieldsIn, lookup, firstPart}
 use Rattle.standard.specs.Reading.{ruled, otherField, readBody, readKind, readOf}
 use Rattle.standard.specs.Walk.{sizeOf, stepOf, framePacket, frameFrom, frameOf, framedOf, otherOf, walkOf}
 use Rattle.lines.specs.Ascii.{ascii}

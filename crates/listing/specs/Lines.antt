@@ -2,14 +2,14 @@
 use Prim.Native.Nat.{ℕ, _/_}
 use mathlib.Core.List.{List, [], _∷_, _++_}
 use Rattle.text.specs.Bytes.{textOf}
-use Rattle.kinds.specs.declared.message.Kind.{Kind}
-use Rattle.kinds.specs.declared.message.Kind.the-variants as K
-use Rattle.kinds.specs.declared.message.Message.{Message}
-use Rattle.kinds.specs.declared.answers.Walked.{Walked}
-use Rattle.kinds.specs.declared.answers.Walked.the-variants as W
+use Rattle.kinds.specs.declared.kind.Kind.{Kind}
+use Rattle.kinds.specs.declared.kind.Kind.the-variants as K
+use Rattle.records.specs.declared.message.Message.{Message}
+use Rattle.records.specs.declared.answers.Walked.{Walked}
+use Rattle.records.specs.declared.answers.Walked.the-variants as W
 use Rattle.kinds.specs.Refusals.{numberOf, placeOf}
 use Rattle.kinds.specs.Layout.{Body, fixed, texts, layout, capacityIn}
-use Rattle.kinds.specs.Records.{kindIn, packetsIn, numbersIn}
+use Rattle.records.specs.Records.{kindIn, packetsIn, numbersIn}
 use Rattle.standard.specs.Walk.{part}
 use Rattle.lines.specs.Ascii.{ascii}
 use Rattle.lines.specs.Numbers.{decimal, numbers, shown}

@@ -6,8 +6,8 @@ use lib.Dec.{ltb}
 use Rattle.laws.specs.Pick.{pick}
 use Rattle.laws.specs.Lists.{tabulate}
 use Rattle.laws.specs.Bits.{wordOf}
-use Rattle.kinds.specs.declared.answers.Walked.{Walked}
-use Rattle.kinds.specs.declared.answers.Walked.the-variants as W
+use Rattle.records.specs.declared.answers.Walked.{Walked}
+use Rattle.records.specs.declared.answers.Walked.the-variants as W
 use Rattle.standard.specs.Walk.{walkOf}
 use Rattle.listing.specs.Lines.{lineOf, endLine, tooLong}
 

@@ -10,7 +10,7 @@ use Rattle.text.specs.Written.{headOctet, octetAt, wordIn, wordNew, written, bl
 use Rattle.text.specs.Bytes.{textByte, allBytes}
 use Rattle.kinds.specs.Fields.{decided, same, start, partOf, joined}
 use Rattle.kinds.specs.Layout.{layout, among, held, valuesIn}
-use Rattle.kinds.specs.Records.{recordOf, fieldsIn, lookup, firstPart}
+use Rattle.records.specs.Records.{recordOf, fieldsIn, lookup, firstPart}
 use Rattle.standard.specs.Reading.{ruled, otherField, readBody, readKind, readOf}
 use Rattle.standard.specs.Walk.{stepOf, framePacket, frameFrom, frameOf, framedOf, walkOf}
 use Rattle.standard.specs.Words.{fresh, putWord, answerTo, actIn, setMessage, setOn}

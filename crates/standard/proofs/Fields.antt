@@ -14,15 +14,15 @@ use Rattle.laws.proofs.Pick.{passed, true-false, eq-differ, differ-false, split
 use Rattle.counts.specs.Counts.{packet}
 use Rattle.slots.specs.Slots.{Slot, get, those, reads}
 use Rattle.slots.proofs.Slots.{get-small}
-use Rattle.kinds.specs.declared.message.Kind.{Kind}
-use Rattle.kinds.specs.declared.message.Kind.the-variants as K
-use Rattle.kinds.specs.declared.message.Message.{Message}
-use Rattle.kinds.specs.declared.message.Message.the-variants as M
+use Rattle.kinds.specs.declared.kind.Kind.{Kind}
+use Rattle.kinds.specs.declared.kind.Kind.the-variants as K
+use Rattle.records.specs.declared.message.Message.{Message}
+use Rattle.records.specs.declared.message.Message.the-variants as M
 use Rattle.kinds.specs.Choices.{noPort, noDirection}
 use Rattle.kinds.specs.Fields.{Field, same, decided, start, partOf, joined}
 use Rattle.kinds.specs.Layout.{Part, layout, mostOf, parts, held, valuesIn}
-use Rattle.kinds.specs.Records.{kindIn, packetsIn, recordOf, fieldsIn, lookup, valuesOf}
-use Rattle.kinds.proofs.Records.{bit-flag, hint-back, port-back, direction-back, flag-bit, code-hint, code-port, code-direction, no-code-port, no-code-direction, pair-low, pair-high, pair-back}
+use Rattle.records.specs.Records.{kindIn, packetsIn, recordOf, fieldsIn, lookup, valuesOf}
+use Rattle.kinds.proofs.Codes.{bit-flag, hint-back, port-back, direction-back, flag-bit, code-hint, code-port, code-direction, no-code-port, no-code-direction, pair-low, pair-high, pair-back}
 use Rattle.standard.specs.Heads.{packetFrom}
 use Rattle.standard.specs.Reading.{otherField, codeAt, valuesAt}
 

@@ -18,16 +18,16 @@ use Rattle.utf8.proofs.Valid.{good-valid, valid-good}
 use Rattle.text.specs.Octets.{due}
 use Rattle.text.specs.Bytes.{textOf}
 use Rattle.kinds.specs.declared.refusal.Refusal.the-variants.{TooFewWords, NotWholePackets, TooManyPackets, WrongType, StatusDiffers, WrongFormat, BlockNumberDiffers, BadPort, BadDirection, NotUtf8}
-use Rattle.kinds.specs.declared.message.Kind.{Kind}
-use Rattle.kinds.specs.declared.message.Known.{Known}
-use Rattle.kinds.specs.declared.message.Known.the-variants.{Is, Unknown}
-use Rattle.kinds.specs.declared.message.Message.{Message}
-use Rattle.kinds.specs.declared.answers.Read.{Read}
-use Rattle.kinds.specs.declared.answers.Read.the-variants as R
+use Rattle.kinds.specs.declared.kind.Kind.{Kind}
+use Rattle.kinds.specs.declared.kind.Known.{Known}
+use Rattle.kinds.specs.declared.kind.Known.the-variants.{Is, Unknown}
+use Rattle.records.specs.declared.message.Message.{Message}
+use Rattle.records.specs.declared.answers.Read.{Read}
+use Rattle.records.specs.declared.answers.Read.the-variants as R
 use Rattle.kinds.specs.Choices.{noPort, noDirection}
 use Rattle.kinds.specs.Fields.{Field}
 use Rattle.kinds.specs.Layout.{layout, capacityOf, mostOf, kinds, kindOf, parts}
-use Rattle.kinds.specs.Records.{kindIn, packetsIn, recordOf, valuesOf}
+use Rattle.records.specs.Records.{kindIn, packetsIn, recordOf, valuesOf}
 use Rattle.kinds.proofs.Rows.{status-kind}
 use Rattle.standard.specs.Heads.{typeOf, formatOf, statusOf, streamType, packetsOf, packetFrom, headAt}
 use Rattle.standard.specs.Reading.{ruled, otherType, otherStatus, otherFormat, otherField, codeAt, textAt, messageAt, valuesAt, isBad, readBody, readKind, readKnown, readOf}

@@ -12,12 +12,12 @@ use Rattle.laws.proofs.First.{first-none, none-first}
 use Rattle.counts.specs.Counts.{packet}
 use Rattle.counts.specs.declared.PacketNumber.{PacketNumber}
 use Rattle.kinds.specs.declared.refusal.Refusal.{Refusal}
-use Rattle.kinds.specs.declared.message.Kind.{Kind}
-use Rattle.kinds.specs.declared.message.Known.{Known}
-use Rattle.kinds.specs.declared.message.Known.the-variants.{Is, Unknown}
-use Rattle.kinds.specs.declared.message.Message.{Message}
-use Rattle.kinds.specs.declared.answers.Read.{Read}
-use Rattle.kinds.specs.declared.answers.Read.the-variants as R
+use Rattle.kinds.specs.declared.kind.Kind.{Kind}
+use Rattle.kinds.specs.declared.kind.Known.{Known}
+use Rattle.kinds.specs.declared.kind.Known.the-variants.{Is, Unknown}
+use Rattle.records.specs.declared.message.Message.{Message}
+use Rattle.records.specs.declared.answers.Read.{Read}
+use Rattle.records.specs.declared.answers.Read.the-variants as R
 use Rattle.kinds.specs.Layout.{Body, fixed, texts, layout, mostIn, mostOf, kinds, among, kindOf}
 use Rattle.standard.specs.Reading.{ruled}
 

@@ -4,10 +4,10 @@ use mathlib.Core.Path.{_≡_}
 use mathlib.Core.Bool.{true}
 use mathlib.Core.List.{List, [], _∷_, _++_}
 use lib.ListN.{length, replicate}
-use Rattle.kinds.specs.declared.message.Kind.{Kind}
-use Rattle.kinds.specs.declared.message.Kind.the-variants as K
+use Rattle.kinds.specs.declared.kind.Kind.{Kind}
+use Rattle.kinds.specs.declared.kind.Kind.the-variants as K
 use Rattle.kinds.specs.Fields.{Flag, Number, Text, Setting}
-use Rattle.kinds.specs.Answers.{Said, accepted, saidRead}
+use Rattle.records.specs.Answers.{Said, accepted, saidRead}
 use Rattle.standard.specs.Reading.{readOf, textAt}
 use Rattle.standard.specs.Words.{fresh}
 use Rattle.standard.specs.Lists.{setAll}

@@ -7,9 +7,9 @@ use Rattle.slots.specs.Slots.{reads}
 use Rattle.utf8.specs.Utf8.{Valid}
 use Rattle.text.specs.Octets.{due}
 use Rattle.text.specs.Bytes.{textOf}
-use Rattle.kinds.specs.declared.message.Message.{Message}
+use Rattle.records.specs.declared.message.Message.{Message}
 use Rattle.kinds.specs.Layout.{layout, capacityOf, mostOf, parts}
-use Rattle.kinds.specs.Records.{kindIn, packetsIn, valuesOf}
+use Rattle.records.specs.Records.{kindIn, packetsIn, valuesOf}
 use Rattle.standard.specs.Heads.{typeOf, formatOf, statusOf, streamType, packetFrom, headAt}
 
 -- the words are the message m with the text t

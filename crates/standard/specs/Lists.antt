@@ -3,9 +3,9 @@ use Prim.Native.Nat.{ℕ}
 use mathlib.Core.Bool.{Bool, true, false}
 use mathlib.Core.List.{List, [], _∷_}
 use Rattle.laws.specs.Pick.{pick, both}
-use Rattle.kinds.specs.declared.message.Kind.{Kind}
-use Rattle.kinds.specs.declared.answers.Answer.{Answer}
-use Rattle.kinds.specs.declared.answers.Answer.the-variants as A
+use Rattle.kinds.specs.declared.kind.Kind.{Kind}
+use Rattle.records.specs.declared.answers.Answer.{Answer}
+use Rattle.records.specs.declared.answers.Answer.the-variants as A
 use Rattle.kinds.specs.Fields.{Field, Setting, fieldIn, valueIn, same}
 use Rattle.kinds.specs.Layout.{layout}
 use Rattle.standard.specs.Words.{setOn, answerTo}

@@ -6,10 +6,10 @@ use lib.Dec.{eqb}
 use Rattle.laws.specs.Pick.{pick, differ}
 use Rattle.counts.specs.Counts.{packet}
 use Rattle.kinds.specs.declared.refusal.Refusal.the-variants.{TooFewWords, WrongType}
-use Rattle.kinds.specs.declared.packet.Packet.{Packet}
-use Rattle.kinds.specs.declared.packet.Format.{Format}
-use Rattle.kinds.specs.declared.answers.PacketRead.{PacketRead}
-use Rattle.kinds.specs.declared.answers.PacketRead.the-variants as P
+use Rattle.records.specs.declared.packet.Packet.{Packet}
+use Rattle.kinds.specs.declared.choices.Format.{Format}
+use Rattle.records.specs.declared.answers.PacketRead.{PacketRead}
+use Rattle.records.specs.declared.answers.PacketRead.the-variants as P
 use Rattle.kinds.specs.Choices.{formatFrom}
 use Rattle.standard.specs.Heads.{typeOf, formatOf, streamType}
 

@@ -7,7 +7,7 @@ use Rattle.laws.specs.Pick.{pick}
 use Rattle.text.specs.Place.{stepAt}
 use Rattle.text.specs.declared.TextPlace.{TextPlace}
 use Rattle.text.specs.declared.Stepped.{Stepped}
-use Rattle.kinds.specs.declared.message.Kind.the-variants as K
+use Rattle.kinds.specs.declared.kind.Kind.the-variants as K
 use Rattle.kinds.specs.Layout.{layout, capacityOf}
 use Rattle.standard.specs.Heads.{statusOf}
 

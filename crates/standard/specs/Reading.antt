@@ -16,16 +16,16 @@ use Rattle.text.specs.Octets.{due}
 use Rattle.text.specs.Bytes.{textOf}
 use Rattle.kinds.specs.declared.refusal.Refusal.{Refusal}
 use Rattle.kinds.specs.declared.refusal.Refusal.the-variants.{TooFewWords, NotWholePackets, TooManyPackets, WrongType, UnknownStatus, StatusDiffers, WrongFormat, BlockNumberDiffers, BadPort, BadDirection, NotUtf8}
-use Rattle.kinds.specs.declared.message.Kind.{Kind}
-use Rattle.kinds.specs.declared.message.Known.{Known}
-use Rattle.kinds.specs.declared.message.Known.the-variants.{Is, Unknown}
-use Rattle.kinds.specs.declared.message.Message.{Message}
-use Rattle.kinds.specs.declared.answers.Read.{Read}
-use Rattle.kinds.specs.declared.answers.Read.the-variants as R
+use Rattle.kinds.specs.declared.kind.Kind.{Kind}
+use Rattle.kinds.specs.declared.kind.Known.{Known}
+use Rattle.kinds.specs.declared.kind.Known.the-variants.{Is, Unknown}
+use Rattle.records.specs.declared.message.Message.{Message}
+use Rattle.records.specs.declared.answers.Read.{Read}
+use Rattle.records.specs.declared.answers.Read.the-variants as R
 use Rattle.kinds.specs.Choices.{noPort, noDirection}
 use Rattle.kinds.specs.Fields.{Field}
 use Rattle.kinds.specs.Layout.{Part, layout, capacityOf, mostOf, kindOf, valuesIn}
-use Rattle.kinds.specs.Records.{recordOf}
+use Rattle.records.specs.Records.{recordOf}
 use Rattle.standard.specs.Heads.{typeOf, formatOf, statusOf, streamType, packetsOf, packetFrom, headAt}
 
 -- the refusal at the first of n packets that breaks a rule, and `rest` where none does

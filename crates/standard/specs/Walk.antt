@@ -7,10 +7,10 @@ use Rattle.laws.specs.Pick.{pick, differ}
 use Rattle.counts.specs.Counts.{packet, word}
 use Rattle.counts.specs.declared.WordNumber.{WordNumber}
 use Rattle.kinds.specs.declared.refusal.Refusal.the-variants.{TooFewWords, TooManyPackets, WrongType, StatusDiffers, WrongFormat}
-use Rattle.kinds.specs.declared.answers.Read.{Read}
-use Rattle.kinds.specs.declared.answers.Read.the-variants as R
-use Rattle.kinds.specs.declared.answers.Walked.{Walked}
-use Rattle.kinds.specs.declared.answers.Walked.the-variants as W
+use Rattle.records.specs.declared.answers.Read.{Read}
+use Rattle.records.specs.declared.answers.Read.the-variants as R
+use Rattle.records.specs.declared.answers.Walked.{Walked}
+use Rattle.records.specs.declared.answers.Walked.the-variants as W
 use Rattle.standard.specs.declared.Step.{Step}
 use Rattle.standard.specs.declared.Step.the-variants.{Ends, Goes, Wrong}
 use Rattle.standard.specs.declared.Framed.{Framed}

@@ -12,18 +12,18 @@ use Rattle.text.specs.Octets.{needed}
 use Rattle.text.specs.Written.{written, blank, eachFirst}
 use Rattle.kinds.specs.declared.refusal.Refusal.{Refusal}
 use Rattle.kinds.specs.declared.refusal.Refusal.the-variants.{TooFewWords, TooManyPackets, WrongType, UnknownStatus, NotUtf8, NumberTooLarge, NoSuchField, NoRoom}
-use Rattle.kinds.specs.declared.message.Kind.{Kind}
-use Rattle.kinds.specs.declared.message.Known.{Known}
-use Rattle.kinds.specs.declared.message.Known.the-variants.{Is, Unknown}
-use Rattle.kinds.specs.declared.message.Message.{Message}
-use Rattle.kinds.specs.declared.answers.Walked.{Walked}
-use Rattle.kinds.specs.declared.answers.Walked.the-variants as W
-use Rattle.kinds.specs.declared.answers.Answer.{Answer}
-use Rattle.kinds.specs.declared.answers.Answer.the-variants as A
+use Rattle.kinds.specs.declared.kind.Kind.{Kind}
+use Rattle.kinds.specs.declared.kind.Known.{Known}
+use Rattle.kinds.specs.declared.kind.Known.the-variants.{Is, Unknown}
+use Rattle.records.specs.declared.message.Message.{Message}
+use Rattle.records.specs.declared.answers.Walked.{Walked}
+use Rattle.records.specs.declared.answers.Walked.the-variants as W
+use Rattle.records.specs.declared.answers.Answer.{Answer}
+use Rattle.records.specs.declared.answers.Answer.the-variants as A
 use Rattle.kinds.specs.Fields.{Field, Setting, fieldIn, valueIn, textIn, start}
 use Rattle.kinds.specs.Layout.{Part, Body, fixed, texts, Row, layout, capacityIn, kindOf, slotsOf, isText, parts, valuesIn}
-use Rattle.kinds.specs.Records.{kindIn, packetsIn, valuesOf}
-use Rattle.kinds.specs.Settings.{lacks, tooLarge}
+use Rattle.records.specs.Records.{kindIn, packetsIn, valuesOf}
+use Rattle.records.specs.Settings.{lacks, tooLarge}
 use Rattle.standard.specs.Heads.{headWord, packetsOf}
 use Rattle.standard.specs.Reading.{isBad}
 use Rattle.standard.specs.Walk.{walkOf}

@@ -1,3 +1,4 @@
 pub mod Needed
 pub mod Written
 pub mod Back
+pub mod Place

@@ -2,3 +2,4 @@ pub mod Octets
 pub mod Written
 pub mod Bytes
 pub mod Place
+pub mod Handed

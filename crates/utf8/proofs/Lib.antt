@@ -1,3 +1,5 @@
 pub mod Valid
 pub mod Zeros
 pub mod Small
+pub mod Ones
+pub mod Steps

@@ -1,8 +1,31 @@
 // UTF-8 by RFC 3629: whether a text is UTF-8, and at which byte its first bad character starts.
+ghost use mathlib.Core.Path.{_≡_};
+ghost use Rattle.utf8.specs.Utf8.{firstBad};
+use crate::scan::Scan;
 use counts::TextByteNumber;
+
+mod first_byte;
+pub mod reading;
+pub mod scan;
 
 // What a check of a text answers: the number is that of the byte at which the first bad character starts.
 pub enum Utf8 {
     Good,
     BadAt(TextByteNumber),
+}
+
+// Whether a text is UTF-8, and where its first bad character starts. It stops there.
+pub fn check_utf8(text: &[u8]) -> Utf8
+    ensures { λ r. ⌜ r ≡ firstBad (now (text .entry)) ⌝ }
+{
+    let mut s = scan::fresh();
+    let mut i = 0;
+    while i < text.len() {
+        s = scan::stepped(s, TextByteNumber(i), text[i]);
+        if let Scan::Stopped(n) = s {
+            return Utf8::BadAt(n);
+        }
+        i += 1;
+    }
+    scan::ended(s)
 }

@@ -4,15 +4,15 @@ use mathlib.Core.Bool.{Bool, true, false, not}
 use mathlib.Core.List.{List, [], _∷_}
 use Rattle.laws.specs.Pick.{pick}
 use Rattle.slots.specs.Slots.{Slot, fits}
 use Rattle.kinds.specs.declared.refusal.Refusal.{Refusal}
 use Rattle.kinds.specs.declared.refusal.Refusal.the-variants.{NumberTooLarge, NoSuchField}
-use Rattle.kinds.specs.declared.message.Message.{Message}
-use Rattle.kinds.specs.declared.answers.Answer.{Answer}
-use Rattle.kinds.specs.declared.answers.Answer.the-variants as A
-use Rattle.kinds.specs.declared.answers.Edited.{Edited}
+use Rattle.records.specs.declared.message.Message.{Message}
+use Rattle.records.specs.declared.answers.Answer.{Answer}
+use Rattle.records.specs.declared.answers.Answer.the-variants as A
+use Rattle.records.specs.declared.answers.Edited.{Edited}
 use Rattle.kinds.specs.Fields.{Field, Setting, fieldIn, valueIn, same}
 use Rattle.kinds.specs.Layout.{Part, layout, none, slotsOf, parts}
-use Rattle.kinds.specs.Records.{kindIn, packetsIn, recordOf, valuesOf}
+use Rattle.records.specs.Records.{kindIn, packetsIn, recordOf, valuesOf}
 
 -- values of which one field's is changed
 abbrev pub with : Field → List ℕ → (Field → List ℕ) → Field → List ℕ

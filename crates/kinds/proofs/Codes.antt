@@ -1,4 +1,4 @@
--- A record's values give the record back, and the choices' codes the choices. Closed by cases.
+-- The codes of the choices and the septets of a pair, each from the other. Closed by cases, and division by 128.
 use Prim.Native.Nat.{ℕ, zero, suc, _+_, _*_, _/_, _%_, _<_}
 use mathlib.Core.Path.{_≡_, refl, ap}
 use mathlib.Core.Bool.{Bool, true, false}
@@ -6,18 +6,14 @@ use mathlib.Core.Logic.{_≢_}
 use mathlib.Core.List.{List, [], _∷_}
 use native.Mathlib.Omega.{arith}
 use lib.Dec.{eqb}
-use Rattle.laws.specs.Pick.{pick}
-use Rattle.kinds.specs.declared.function_block_info.UiHint.{UiHint}
-use Rattle.kinds.specs.declared.function_block_info.UiHint.the-variants as H
-use Rattle.kinds.specs.declared.function_block_info.Midi1Port.{Midi1Port}
-use Rattle.kinds.specs.declared.function_block_info.Midi1Port.the-variants as P
-use Rattle.kinds.specs.declared.function_block_info.Direction.{Direction}
-use Rattle.kinds.specs.declared.function_block_info.Direction.the-variants as D
-use Rattle.kinds.specs.declared.message.Message.{Message}
-use Rattle.kinds.specs.declared.message.Message.the-variants as M
+use Rattle.kinds.specs.declared.choices.UiHint.{UiHint}
+use Rattle.kinds.specs.declared.choices.UiHint.the-variants as H
+use Rattle.kinds.specs.declared.choices.Midi1Port.{Midi1Port}
+use Rattle.kinds.specs.declared.choices.Midi1Port.the-variants as P
+use Rattle.kinds.specs.declared.choices.Direction.{Direction}
+use Rattle.kinds.specs.declared.choices.Direction.the-variants as D
 use Rattle.kinds.specs.Choices.{hintCode, hintOf, portCode, portOf, directionCode, directionOf}
-use Rattle.kinds.specs.Fields.{Field, Pair, bit, same, decided, partOf, joined}
-use Rattle.kinds.specs.Records.{kindIn, packetsIn, recordOf, fieldsIn, lookup, valuesOf}
+use Rattle.kinds.specs.Fields.{Field, Pair, bit, partOf, joined}
 
 pub bit-flag : (b : Bool) → eqb (bit b) 1 ≡ b
 bit-flag true = refl
@@ -90,14 +86,3 @@ pair-back x = omega arith
 pub pair-joined : (p : Pair) (x : ℕ) → joined (Field.pair p) (partOf (Field.pair p) (x ∷ []) 0 ∷ partOf (Field.pair p) (x ∷ []) 1 ∷ []) ≡ x ∷ []
 unfolding joined partOf
 pair-joined p x = ap (λ (y : ℕ). y ∷ []) (pair-back x)
-
--- no value of a record is lost
-pub record-back : (m : Message) → recordOf (kindIn m) (packetsIn m) (valuesOf m) ≡ m
-unfolding recordOf fieldsIn lookup same decided
-record-back (M.EndpointDiscovery e) = simp bit-flag
-record-back (M.EndpointInfo e) = simp bit-flag
-record-back (M.DeviceIdentity e) = refl
-record-back (M.EndpointName n) = refl
-record-back (M.ProductInstanceId n) = refl
-record-back (M.FunctionBlockInfo e) = simp (bit-flag, hint-back, port-back, direction-back)
-record-back (M.FunctionBlockName b n) = refl

@@ -5,22 +5,6 @@ use crate::endpoint_info::EndpointInfo;
 use crate::function_block_info::FunctionBlockInfo;
 use counts::PacketNumber;
 
-pub enum Kind {
-    EndpointDiscovery,
-    EndpointInfo,
-    DeviceIdentity,
-    EndpointName,
-    ProductInstanceId,
-    FunctionBlockInfo,
-    FunctionBlockName,
-}
-
-// The kind of a status, where it has one.
-pub enum Known {
-    Is(Kind),
-    Unknown,
-}
-
 pub enum Message {
     EndpointDiscovery(EndpointDiscovery),
     EndpointInfo(EndpointInfo),

@@ -1,8 +1,8 @@
 // What each kind of call answers. specs/Answers.antt has the document's numbers of each case.
 use crate::message::Message;
 use crate::packet::Packet;
-use crate::refusal::Refusal;
 use counts::WordNumber;
+use kinds::refusal::Refusal;
 
 // Reading one message.
 pub enum Read {

@@ -1,19 +1,19 @@
 -- What each answer says in document 01's numbers: the refusal's number, 0 where there is none, its place, and the answer's values.
 use Prim.Native.Nat.{ℕ}
 use mathlib.Core.List.{List, [], _∷_}
 use Rattle.kinds.specs.declared.refusal.Refusal.{Refusal}
-use Rattle.kinds.specs.declared.message.Message.{Message}
-use Rattle.kinds.specs.declared.answers.Read.{Read}
-use Rattle.kinds.specs.declared.answers.Read.the-variants as R
-use Rattle.kinds.specs.declared.answers.Walked.{Walked}
-use Rattle.kinds.specs.declared.answers.Walked.the-variants as W
-use Rattle.kinds.specs.declared.answers.PacketRead.{PacketRead}
-use Rattle.kinds.specs.declared.answers.PacketRead.the-variants as P
-use Rattle.kinds.specs.declared.answers.Answer.{Answer}
-use Rattle.kinds.specs.declared.answers.Answer.the-variants as A
+use Rattle.records.specs.declared.message.Message.{Message}
+use Rattle.records.specs.declared.answers.Read.{Read}
+use Rattle.records.specs.declared.answers.Read.the-variants as R
+use Rattle.records.specs.declared.answers.Walked.{Walked}
+use Rattle.records.specs.declared.answers.Walked.the-variants as W
+use Rattle.records.specs.declared.answers.PacketRead.{PacketRead}
+use Rattle.records.specs.declared.answers.PacketRead.the-variants as P
+use Rattle.records.specs.declared.answers.Answer.{Answer}
+use Rattle.records.specs.declared.answers.Answer.the-variants as A
 use Rattle.kinds.specs.Refusals.{numberOf, placeOf}
 use Rattle.kinds.specs.Layout.{layout}
-use Rattle.kinds.specs.Records.{kindIn, packetsIn, numbersIn}
+use Rattle.records.specs.Records.{kindIn, packetsIn, numbersIn}
 
 pub record Said : Type 0 where
   pub refusal : ℕ

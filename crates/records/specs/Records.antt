@@ -8,13 +8,13 @@ use Rattle.laws.specs.Pick.{pick}
 use Rattle.laws.specs.Lists.{each}
 use Rattle.slots.specs.Slots.{Slot}
 use Rattle.counts.specs.Counts.{packet}
-use Rattle.kinds.specs.declared.message.Kind.{Kind}
-use Rattle.kinds.specs.declared.message.Kind.the-variants as K
-use Rattle.kinds.specs.declared.message.Message.{Message}
-use Rattle.kinds.specs.declared.message.Message.the-variants as M
+use Rattle.kinds.specs.declared.kind.Kind.{Kind}
+use Rattle.kinds.specs.declared.kind.Kind.the-variants as K
+use Rattle.records.specs.declared.message.Message.{Message}
+use Rattle.records.specs.declared.message.Message.the-variants as M
 use Rattle.kinds.specs.Choices.{hintCode, hintOf, portCode, portOf, directionCode, directionOf}
 use Rattle.kinds.specs.Fields.{Flag, Number, Pair, Field, same, start, bit}
 use Rattle.kinds.specs.Layout.{Part, layout}
 
 -- what a record says it is
 abbrev pub kindIn : Message → Kind

@@ -1,23 +1,7 @@
 // Status 0x11: one function block of an endpoint, with its three named choices.
-
-pub enum UiHint {
-    Undeclared,
-    Receiver,
-    Sender,
-    SenderReceiver,
-}
-
-pub enum Midi1Port {
-    None,
-    DontRestrictBandwidth,
-    RestrictBandwidth,
-}
-
-pub enum Direction {
-    Input,
-    Output,
-    Bidirectional,
-}
+use kinds::choices::Direction;
+use kinds::choices::Midi1Port;
+use kinds::choices::UiHint;
 
 pub struct FunctionBlockInfo {
     pub active: bool,

@@ -1,0 +1,27 @@
+-- `get` gives the field: `1 << span` is 2 ^ span.
+use lib.Pow.{pow-pos}
+use Rattle.bit_ops.proofs.Shifts.{one-shl}
+use borrow.Author.Needs.{needs}
+use Rattle.bit_ops.proofs.get.Statement.{statement}
+use Rattle.bit_ops.proofs.get.Tie as tie
+
+cast-result : tie.Need-cast-result
+cast-result c = search needs
+
+shr-result : tie.Need-shr-result
+shr-result c = search needs
+
+cast-result-2 : tie.Need-cast-result-2
+cast-result-2 c = search needs
+
+shl-result : tie.Need-shl-result
+shl-result c = search needs
+
+rem-result : tie.Need-rem-result
+rem-result c = rw (one-shl (c .pre .1)) (pow-pos _)
+
+returns : tie.Need-returns
+returns c = rw (one-shl (c .pre .1))
+
+pub get-spec : {M : Type 1} → statement M
+get-spec = tie.close (tie.spec cast-result shr-result cast-result-2 shl-result rem-result returns)

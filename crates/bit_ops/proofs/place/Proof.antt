@@ -1,0 +1,22 @@
+-- `place` gives the lowest bit of a part: the parts before it and itself are within the word.
+use native.Mathlib.Omega.{arith}
+use native.Mathlib.Nat.{div-le-self}
+use Rattle.bit_ops.proofs.Parts.{in-word}
+use borrow.Author.Needs.{needs}
+use Rattle.bit_ops.proofs.place.Statement.{statement}
+use Rattle.bit_ops.proofs.place.Tie as tie
+
+add-result : tie.Need-add-result
+add-result c = omega (arith, div-le-self 32 (c .args .stride))
+
+mul-result : tie.Need-mul-result
+mul-result c = omega (arith, in-word (c .args .stride) (c .args .index) (c .pre))
+
+sub-result : tie.Need-sub-result
+sub-result c = in-word (c .args .stride) (c .args .index) (c .pre)
+
+returns : tie.Need-returns
+returns c = search needs
+
+pub place-spec : {M : Type 1} → statement M
+place-spec = tie.close (tie.spec add-result mul-result sub-result returns)

@@ -1,0 +1,98 @@
+-- `text::by_byte::step`: a step from the place reached is the step from the place given.
+use Prim.Native.Nat.{ℕ, _-_, _*_, _/_, _<_}
+use mathlib.Core.Path.{_≡_, refl, sym, ap, _∙_}
+use mathlib.Core.List.{List}
+use native.Mathlib.Omega.{arith}
+use lib.ListN.{length}
+use borrow.Author.Needs.{needs}
+use Rattle.text.specs.Place.{byteFrom, stepAt}
+use Rattle.text.specs.declared.TextPlace.{TextPlace}
+use Rattle.text.proofs.Place.{next-back, next-low, place-inside, step-past, step-over, step-zero, step-byte}
+use Rattle.text.proofs.by_byte.step.Statement.{statement}
+use Rattle.text.proofs.by_byte.step.Tie as tie
+
+record Sought (ws : List ℕ) (cap : ℕ) (at place : TextPlace) : Type 0 where
+  low : place .byte .0 < cap
+  same : stepAt ws cap at ≡ stepAt ws cap place
+
+abbrev Inv-loop : tie.InvT-loop
+Inv-loop words offset place₀ place = Sought words (14 - offset) place₀ place
+
+abbrev μ-loop : tie.MeasureT-loop
+μ-loop words offset place₀ place = length words / 4 * (14 - offset) - byteFrom (14 - offset) place
+
+ended-requires : tie.Need-ended-requires Inv-loop μ-loop
+ended-requires c κs = search needs
+
+returns : tie.Need-returns Inv-loop μ-loop
+returns c = c .ended .ensures ∙ sym (step-over _ _ (c .before .before .before .args .at) (omega arith))
+
+sub-if2 : tie.Need-sub-if2 Inv-loop μ-loop
+sub-if2 c = search needs
+
+ended-requires-2 : tie.Need-ended-requires-2 Inv-loop μ-loop
+ended-requires-2 c κs = search needs
+
+returns-2 : tie.Need-returns-2 Inv-loop μ-loop
+returns-2 c = c .ended2 .ensures ∙ sym (step-over _ _ (c .before .before .before .before .before .args .at) (omega arith))
+
+loop-holds : tie.Need-loop-holds Inv-loop μ-loop
+loop-holds c = record { low = omega arith; same = refl }
+
+text-byte-requires : tie.Need-text-byte-requires Inv-loop μ-loop
+text-byte-requires c κs = (c .if3 .taken, omega arith)
+
+sub-advanced : tie.Need-sub-advanced Inv-loop μ-loop
+sub-advanced c = search needs
+
+advanced-requires : tie.Need-advanced-requires Inv-loop μ-loop
+advanced-requires c κs = (omega arith, omega arith)
+
+returns-3 : tie.Need-returns-3 Inv-loop μ-loop
+returns-3 c =
+    let l = c .before .before .before .before .before .loop in
+    rw (c .before .before .text-byte .ensures, c .before .advanced .ensures)
+    (sym (l .inv .same ∙ step-byte _ _ (l .place) (c .before .before .before .if3 .taken) (l .inv .low) (λ e. c .if4 .taken (c .before .before .text-byte .ensures ∙ e))))
+
+loop-less : tie.Need-loop-less Inv-loop μ-loop
+loop-less c =
+    let a = c .before .before .before .before .before .before .before .before .before .before .args in
+    let l = c .before .before .before .before .before .loop in
+    rw (c .before .advanced .ensures, next-back)
+    (omega (arith, place-inside (14 - a .offset) (l .place) (l .inv .low) (length (a .words .now) / 4) (c .before .before .before .if3 .taken)))
+
+loop-again : tie.Need-loop-again Inv-loop μ-loop
+loop-again c =
+    let l = c .before .before .before .before .before .loop in
+    rw (c .before .advanced .ensures)
+    (record {
+      low = next-low _ (l .place) (omega arith);
+      same = l .inv .same ∙ step-zero _ _ (l .place) (c .before .before .before .if3 .taken) (l .inv .low) (sym (c .before .before .text-byte .ensures) ∙ c .if4 .left);
+    })
+
+ended-requires-3 : tie.Need-ended-requires-3 Inv-loop μ-loop
+ended-requires-3 c κs = search needs
+
+returns-4 : tie.Need-returns-4 Inv-loop μ-loop
+returns-4 c = c .ended3 .ensures ∙ sym (c .before .before .before .loop .inv .same ∙ step-past _ _ _ (c .before .if3 .left))
+
+pub step-spec : {M : Type 1} → statement M
+step-spec =
+    tie.close
+    (tie.spec
+    Inv-loop
+    μ-loop
+    ended-requires
+    returns
+    sub-if2
+    ended-requires-2
+    returns-2
+    loop-holds
+    text-byte-requires
+    sub-advanced
+    advanced-requires
+    returns-3
+    loop-less
+    loop-again
+    ended-requires-3
+    returns-4)

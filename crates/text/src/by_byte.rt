@@ -1,0 +1,95 @@
+// Text handed out a byte at a time, by value: each step takes a place and gives the one after it.
+ghost use mathlib.Core.Path.{_≡_};
+ghost use Prim.Native.Nat.{_+_, _-_, _/_, _^_, _<_};
+ghost use lib.ListN.{length};
+ghost use Rattle.text.specs.Octets.{octetOf};
+ghost use Rattle.text.specs.Bytes.{textByte};
+ghost use Rattle.text.specs.Place.{stepped, stepAt};
+ghost use Rattle.text.specs.Handed.{startPlace, nextPlace};
+ghost use Rattle.text.specs.declared.TextStep.the-variants.{End};
+use crate::Stepped;
+use crate::TextPlace;
+use crate::TextStep;
+use counts::PacketNumber;
+use counts::TextByteNumber;
+
+// Octet j of a word.
+fn octet(word: u32, j: usize) -> u8
+    requires { ⌜ j < 4 ⌝ }
+    ensures { λ r. ⌜ r ≡ octetOf word j ⌝ }
+{
+    ((word >> (24 - j * 8)) % 256) as u8
+}
+
+// The text byte at a place of a whole packet, within its text.
+fn text_byte(words: &[u32], offset: usize, at: TextPlace) -> u8
+    requires { ⌜ (at .packet .0 < length (now words) / 4) × (at .byte .0 + offset < 14) ⌝ }
+    ensures { λ r. ⌜ r ≡ textByte (now (words .entry)) (14 - offset) (at .packet .0) (at .byte .0) ⌝ }
+{
+    let p = at.packet.0;
+    let o = at.byte.0 + 2 + offset;
+    octet(words[p * 4 + o / 4], o % 4)
+}
+
+// The place after one: the next packet's byte 0 after a packet's last byte.
+fn advanced(capacity: usize, at: TextPlace) -> TextPlace
+    requires { ⌜ (at .byte .0 < capacity) × (at .packet .0 + 1 < 2 ^ 64) ⌝ }
+    ensures { λ r. ⌜ r ≡ nextPlace capacity at ⌝ }
+{
+    let p = at.packet.0;
+    let b = at.byte.0;
+    if b + 1 == capacity {
+        return TextPlace {
+            packet: PacketNumber(p + 1),
+            byte: TextByteNumber(0),
+        };
+    }
+    TextPlace {
+        packet: PacketNumber(p),
+        byte: TextByteNumber(b + 1),
+    }
+}
+
+// The first place of any text.
+pub fn start() -> TextPlace
+    ensures { λ r. ⌜ r ≡ startPlace ⌝ }
+{
+    TextPlace {
+        packet: PacketNumber(0),
+        byte: TextByteNumber(0),
+    }
+}
+
+// The end, at a place.
+fn ended(at: TextPlace) -> Stepped
+    ensures { λ r. ⌜ r ≡ stepped End at ⌝ }
+{
+    Stepped {
+        step: TextStep::End,
+        place: at,
+    }
+}
+
+// The next text byte that is not zero and the place after it, else the end. A place past the text does not move, and an offset of 14 or more leaves no text.
+pub fn step(words: &[u32], offset: usize, at: TextPlace) -> Stepped
+    ensures { λ r. ⌜ r ≡ stepAt (now (words .entry)) (14 - offset) at ⌝ }
+{
+    if 14 <= offset {
+        return ended(at);
+    }
+    if 14 - offset <= at.byte.0 {
+        return ended(at);
+    }
+    let mut place = at;
+    while place.packet.0 < words.len() / 4 {
+        let x = text_byte(words, offset, place);
+        place = advanced(14 - offset, place);
+        if x != 0 {
+            return Stepped {
+                step: TextStep::Byte(x),
+                place,
+            };
+        }
+    }
+    ended(place)
+}
