@@ -9,6 +9,8 @@ use Rattle.records.specs.declared.answers.Walked.{Walked}
 use Rattle.records.specs.declared.answers.Walked.the-variants as W
 use Rattle.records.specs.declared.answers.PacketRead.{PacketRead}
 use Rattle.records.specs.declared.answers.PacketRead.the-variants as P
+use Rattle.records.specs.declared.answers.MessageSize.{MessageSize}
+use Rattle.records.specs.declared.answers.MessageSize.the-variants as S
 use Rattle.records.specs.declared.answers.Answer.{Answer}
 use Rattle.records.specs.declared.answers.Answer.the-variants as A
 use Rattle.kinds.specs.Refusals.{numberOf, placeOf}
@@ -44,6 +46,10 @@ saidWalked (W.Refused r next) = refused r (next .0 ∷ [])
 abbrev pub saidPacket : PacketRead → Said
 saidPacket (P.Packet p) = accepted (p .0 ∷ p .1 ∷ p .2 ∷ p .3 ∷ [])
 saidPacket (P.Refused r) = refused r []
+
+abbrev pub saidSize : MessageSize → Said
+saidSize (S.Words n) = accepted (n .0 ∷ [])
+saidSize (S.Refused r) = refused r []
 
 abbrev pub saidAnswer : Answer → Said
 saidAnswer A.Done = accepted []

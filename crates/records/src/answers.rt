@@ -34,6 +34,12 @@ pub enum PacketRead {
     Refused(Refusal),
 }
 
+// The words of the message that a slice starts with.
+pub enum MessageSize {
+    Words(WordNumber),
+    Refused(Refusal),
+}
+
 // Making a fresh message, a setting, or writing a record.
 pub enum Answer {
     Done,

@@ -1,17 +1,21 @@
--- A PACKET from any slice: the first four words, missing ones zero.
-use Prim.Native.Nat.{ℕ}
+-- A PACKET from any slice: the first four words, missing ones zero. And the size of the message that a slice starts with.
+use Prim.Native.Nat.{ℕ, _+_}
+use mathlib.Core.Bool.{Bool, true}
 use mathlib.Core.List.{List}
 use lib.ListN.{length, getD}
-use lib.Dec.{eqb}
+use lib.Dec.{ltb, eqb}
 use Rattle.laws.specs.Pick.{pick, differ}
-use Rattle.counts.specs.Counts.{packet}
+use Rattle.laws.specs.First.{first}
+use Rattle.counts.specs.Counts.{packet, firstWord}
 use Rattle.kinds.specs.declared.refusal.Refusal.the-variants.{TooFewWords, WrongType}
 use Rattle.records.specs.declared.packet.Packet.{Packet}
 use Rattle.kinds.specs.declared.choices.Format.{Format}
 use Rattle.records.specs.declared.answers.PacketRead.{PacketRead}
 use Rattle.records.specs.declared.answers.PacketRead.the-variants as P
+use Rattle.records.specs.declared.answers.MessageSize.{MessageSize}
+use Rattle.records.specs.declared.answers.MessageSize.the-variants as S
 use Rattle.kinds.specs.Choices.{formatFrom}
-use Rattle.standard.specs.Heads.{typeOf, formatOf, streamType}
+use Rattle.standard.specs.Heads.{typeOf, formatOf, streamType, packetsOf, headAt}
 
 -- from an empty slice refusal 1, of another type refusal 4
 unfoldable pub packetOf : List ℕ → PacketRead
@@ -23,3 +27,12 @@ packetOf ws =
 -- its format
 abbrev pub packetFormat : Packet → Format
 packetFormat p = formatFrom (formatOf (p .0))
+
+-- a packet that ends a message: Complete or End
+abbrev pub endsMessage : List ℕ → ℕ → Bool
+endsMessage ws p = pick (eqb (formatOf (headAt ws p)) 0) true (eqb (formatOf (headAt ws p)) 3)
+
+-- the words up to the first such packet, that packet too; refusal 1 where no whole packet ends it
+unfoldable pub messageSize : List ℕ → MessageSize
+messageSize ws =
+    pick (ltb (first (endsMessage ws) (packetsOf ws)) (packetsOf ws)) (S.Words (firstWord (packet (first (endsMessage ws) (packetsOf ws) + 1)))) (S.Refused TooFewWords)

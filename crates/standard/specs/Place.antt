@@ -1,5 +1,5 @@
 -- THE TEXT PLACE over any slice: whole packets only; offset 1 where the first word's status is 0x12, else 0.
-use Prim.Native.Nat.{ℕ}
+use Prim.Native.Nat.{ℕ, _-_}
 use mathlib.Core.List.{List}
 use lib.ListN.{getD}
 use lib.Dec.{eqb}
@@ -8,13 +8,12 @@ use Rattle.text.specs.Place.{stepAt}
 use Rattle.text.specs.declared.TextPlace.{TextPlace}
 use Rattle.text.specs.declared.Stepped.{Stepped}
 use Rattle.kinds.specs.declared.kind.Kind.the-variants as K
-use Rattle.kinds.specs.Layout.{layout, capacityOf}
+use Rattle.kinds.specs.Layout.{layout}
 use Rattle.standard.specs.Heads.{statusOf}
 
--- text bytes of a packet, by the ten status bits of the first word, whatever its type
-unfoldable pub capacityHere : List ℕ → ℕ
-capacityHere ws =
-    pick (eqb (statusOf (getD ws 0 0)) (layout K.FunctionBlockName .status)) (capacityOf K.FunctionBlockName) (capacityOf K.EndpointName)
+-- the offset, by the ten status bits of the first word, whatever its type
+unfoldable pub offsetHere : List ℕ → ℕ
+offsetHere ws = pick (eqb (statusOf (getD ws 0 0)) (layout K.FunctionBlockName .status)) 1 0
 
 abbrev pub nextByte : List ℕ → TextPlace → Stepped
-nextByte ws at = stepAt ws (capacityHere ws) at
+nextByte ws at = stepAt ws (14 - offsetHere ws) at

@@ -1,0 +1,66 @@
+use Prim.Native.Nat.{_-_, _≤_}
+use mathlib.Core.Path.{_≡_, sym, _∙_}
+use native.Mathlib.Nat.{sub-zero}
+use Rattle.laws.specs.First.{first, firstFrom}
+use Rattle.laws.proofs.First.{first-turn, first-hit, first-end}
+use Rattle.standard.specs.Packet.{endsMessage}
+use Rattle.reading.specs.Rules.{ends}
+use borrow.Author.Needs.{needs}
+use Rattle.reading.proofs.packet.first_end.Statement.{statement}
+use Rattle.reading.proofs.packet.first_end.Tie as tie
+
+abbrev Inv-loop : tie.InvT-loop
+Inv-loop words n p₀ p = (p ≤ n) × (firstFrom (endsMessage words) (n - p) p ≡ first (endsMessage words) n)
+
+abbrev μ-loop : tie.MeasureT-loop
+μ-loop words n p₀ p = n - p
+
+loop-holds : tie.Need-loop-holds Inv-loop μ-loop
+unfolding first
+loop-holds c = (search needs, rw sub-zero)
+
+mul-ends-message : tie.Need-mul-ends-message Inv-loop μ-loop
+mul-ends-message c = search needs
+
+mul-ends-message-2 : tie.Need-mul-ends-message-2 Inv-loop μ-loop
+mul-ends-message-2 c = search needs
+
+shared-slice-read-ends-message : tie.Need-shared-slice-read-ends-message Inv-loop μ-loop
+shared-slice-read-ends-message c = search needs
+
+ends-message-requires : tie.Need-ends-message-requires Inv-loop μ-loop
+ends-message-requires c κs = search needs
+
+returns : tie.Need-returns Inv-loop μ-loop
+unfolding ends
+returns c = first-hit (endsMessage (c .before .before .before .before .before .before .args .words .now)) _ _ (c .before .before .before .loop-test .taken) (sym (c .before .ends-message .ensures) ∙ c .if1 .taken) ∙ c .before .before .before .before .loop .inv .1
+
+add-p : tie.Need-add-p Inv-loop μ-loop
+add-p c = search needs
+
+loop-less : tie.Need-loop-less Inv-loop μ-loop
+loop-less c = search needs
+
+loop-again : tie.Need-loop-again Inv-loop μ-loop
+unfolding ends
+loop-again c = (search needs, first-turn (endsMessage (c .before .before .before .before .before .before .args .words .now)) _ _ (c .before .before .before .loop-test .taken) (sym (c .before .ends-message .ensures) ∙ c .if1 .left) ∙ c .before .before .before .before .loop .inv .1)
+
+returns-2 : tie.Need-returns-2 Inv-loop μ-loop
+returns-2 c = first-end (endsMessage (c .before .before .before .args .words .now)) _ _ (c .loop-test .left) ∙ c .before .loop .inv .1
+
+pub first-end-spec : {M : Type 1} → statement M
+first-end-spec =
+    tie.close
+    (tie.spec
+    Inv-loop
+    μ-loop
+    loop-holds
+    mul-ends-message
+    mul-ends-message-2
+    shared-slice-read-ends-message
+    ends-message-requires
+    returns
+    add-p
+    loop-less
+    loop-again
+    returns-2)

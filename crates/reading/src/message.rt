@@ -1,0 +1,146 @@
+// Reading one message: refusals 1 to 11, in that order, each over all packets; else the record.
+ghost use mathlib.Core.Path.{_≡_};
+ghost use Prim.Native.Nat.{_≤_};
+ghost use lib.ListN.{length};
+ghost use Rattle.kinds.specs.Layout.{mostOf};
+ghost use Rattle.standard.specs.Heads.{packetsOf};
+ghost use Rattle.standard.specs.Reading.{readBody, readKind, readOf};
+ghost use Rattle.reading.specs.Bodies.{textRead, repeated, fieldsRead};
+use crate::device_identity;
+use crate::endpoint_discovery;
+use crate::endpoint_info;
+use crate::function_block_info;
+use crate::heads::kind_of;
+use crate::heads::status_of;
+use crate::rules::Rule;
+use crate::rules::first_broken;
+use counts::PacketNumber;
+use kinds::kind::Kind;
+use kinds::kind::Known;
+use kinds::refusal::Refusal;
+use records::answers::Read;
+use records::message::Message;
+use utf8::Utf8;
+
+// A fixed kind is one packet, text at most 64.
+pub fn most_packets(kind: Kind) -> usize
+    ensures { λ r. ⌜ r ≡ mostOf kind ⌝ }
+{
+    match kind {
+        Kind::EndpointName => 64,
+        Kind::ProductInstanceId => 64,
+        Kind::FunctionBlockName => 64,
+        Kind::EndpointDiscovery => 1,
+        Kind::EndpointInfo => 1,
+        Kind::DeviceIdentity => 1,
+        Kind::FunctionBlockInfo => 1,
+    }
+}
+
+// Refusal 11, and else the message.
+fn read_text(words: &[u32], offset: usize, message: Message) -> Read
+    ensures { λ r. ⌜ r ≡ textRead (now (words .entry)) offset message ⌝ }
+{
+    match text_check::check_text(words, offset) {
+        Utf8::Good => Read::Message(message),
+        Utf8::BadAt(_) => Read::Refused(Refusal::NotUtf8),
+    }
+}
+
+// Refusals 9, 10 and 11, and else the message.
+fn read_body(kind: Kind, words: &[u32]) -> Read
+    requires { ⌜ 4 ≤ length (now words) ⌝ }
+    ensures { λ r. ⌜ r ≡ readBody kind (now (words .entry)) ⌝ }
+{
+    let packets = PacketNumber(words.len() / 4);
+    match kind {
+        Kind::EndpointDiscovery => Read::Message(endpoint_discovery::message(words)),
+        Kind::EndpointInfo => Read::Message(endpoint_info::message(words)),
+        Kind::DeviceIdentity => Read::Message(device_identity::message(words)),
+        Kind::EndpointName => read_text(words, 0, Message::EndpointName(packets)),
+        Kind::ProductInstanceId => read_text(words, 0, Message::ProductInstanceId(packets)),
+        Kind::FunctionBlockInfo => function_block_info::read(words),
+        Kind::FunctionBlockName => {
+            let function_block = bit_ops::octet(words[0], 2);
+            let message = Message::FunctionBlockName {
+                function_block,
+                packets,
+            };
+            read_text(words, 1, message)
+        }
+    }
+}
+
+// Whether the kind has a field in each of its packets: only a block name has.
+fn repeats_field(kind: Kind) -> bool
+    ensures { λ r. ⌜ r ≡ repeated kind ⌝ }
+{
+    match kind {
+        Kind::FunctionBlockName => true,
+        Kind::EndpointDiscovery => false,
+        Kind::EndpointInfo => false,
+        Kind::DeviceIdentity => false,
+        Kind::EndpointName => false,
+        Kind::ProductInstanceId => false,
+        Kind::FunctionBlockInfo => false,
+    }
+}
+
+// Refusal 8, and else what comes after it.
+fn read_fields(kind: Kind, words: &[u32]) -> Read
+    requires { ⌜ (4 ≤ length (now words)) × (packetsOf (now words) ≤ mostOf kind) ⌝ }
+    ensures { λ r. ⌜ r ≡ fieldsRead kind (now (words .entry)) ⌝ }
+{
+    if repeats_field(kind) {
+        let b = first_broken(Rule::FunctionBlock, words);
+        if b.0 < words.len() / 4 {
+            return Read::Refused(Refusal::BlockNumberDiffers(b));
+        }
+        return read_body(kind, words);
+    }
+    read_body(kind, words)
+}
+
+// Refusals 6, 7 and 8.
+fn read_kind(kind: Kind, words: &[u32]) -> Read
+    requires { ⌜ 4 ≤ length (now words) ⌝ }
+    ensures { λ r. ⌜ r ≡ readKind kind (now (words .entry)) ⌝ }
+{
+    let n = words.len() / 4;
+    let s = first_broken(Rule::Status, words);
+    if s.0 < n {
+        return Read::Refused(Refusal::StatusDiffers(s));
+    }
+    if most_packets(kind) < n {
+        return Read::Refused(Refusal::WrongFormat(PacketNumber(1)));
+    }
+    let f = first_broken(Rule::Format, words);
+    if f.0 < n {
+        return Read::Refused(Refusal::WrongFormat(f));
+    }
+    read_fields(kind, words)
+}
+
+// READING ONE MESSAGE
+pub fn read(words: &[u32]) -> Read
+    ensures { λ r. ⌜ r ≡ readOf (now (words .entry)) ⌝ }
+{
+    if words.len() < 4 {
+        return Read::Refused(Refusal::TooFewWords);
+    }
+    if words.len() % 4 != 0 {
+        return Read::Refused(Refusal::NotWholePackets);
+    }
+    let n = words.len() / 4;
+    if n > 64 {
+        return Read::Refused(Refusal::TooManyPackets);
+    }
+    let t = first_broken(Rule::Type, words);
+    if t.0 < n {
+        return Read::Refused(Refusal::WrongType(t));
+    }
+    match kind_of(status_of(words[0])) {
+        Known::Unknown => Read::Refused(Refusal::UnknownStatus),
+        Known::Is(kind) => read_kind(kind, words),
+    }
+}
