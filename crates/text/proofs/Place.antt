@@ -16,7 +16,7 @@ use Rattle.laws.proofs.Pick.{never, here, past, below, split}
 use Rattle.laws.proofs.Lists.{length-tabulate, getD-tabulate, nonzero-zero, nonzero-kept, nonzero-length}
 use Rattle.counts.specs.Counts.{packet, byte}
 use Rattle.text.specs.Bytes.{textByte, allBytes, textOf}
-use Rattle.text.specs.Place.{placeOf, byteFrom, stepped, seek, stepAt}
+use Rattle.text.specs.Place.{placeOf, byteFrom, byteAt, stepped, seek, stepAt}
 use Rattle.text.specs.Handed.{startPlace, endPlace, nextPlace, handed, placeAfter, HandsOut, none, more}
 use Rattle.text.specs.declared.TextPlace.{TextPlace}
 use Rattle.text.specs.declared.TextStep.the-variants.{Byte, End}
@@ -25,6 +25,11 @@ use Rattle.text.specs.declared.Stepped.{Stepped}
 -- the text bytes of all whole packets
 abbrev bytesIn : List ℕ → ℕ → List ℕ
 bytesIn ws cap = allBytes ws cap (length ws / 4)
+
+-- the byte at a place of a whole packet, within its text
+pub byte-in : (ws : List ℕ) (cap : ℕ) (at : TextPlace) → at .packet .0 < length ws / 4 → at .byte .0 < cap → byteAt ws cap at ≡ textByte ws cap (at .packet .0) (at .byte .0)
+unfolding byteAt
+byte-in ws cap at hp hb = simp (lt-leb (length ws / 4) (at .packet .0) hp, lt-leb cap (at .byte .0) hb)
 
 -- ---- places and bytes counted over all packets
 module _ (cap : ℕ) where

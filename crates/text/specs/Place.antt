@@ -5,7 +5,7 @@ use lib.ListN.{length, drop}
 use lib.Dec.{leb, eqb}
 use Rattle.laws.specs.Pick.{pick}
 use Rattle.counts.specs.Counts.{packet, byte}
-use Rattle.text.specs.Bytes.{allBytes}
+use Rattle.text.specs.Bytes.{textByte, allBytes}
 use Rattle.text.specs.declared.TextPlace.{TextPlace}
 use Rattle.text.specs.declared.TextStep.{TextStep}
 use Rattle.text.specs.declared.TextStep.the-variants.{Byte, End}
@@ -18,6 +18,11 @@ placeOf cap m = record { packet = packet (m / cap); byte = byte (m % cap) }
 -- and back
 abbrev pub byteFrom : ℕ → TextPlace → ℕ
 byteFrom cap at = at .packet .0 * cap + at .byte .0
+
+-- the text byte at a place, and 0 where no whole packet has such a byte
+unfoldable pub byteAt : List ℕ → ℕ → TextPlace → ℕ
+byteAt ws cap at =
+    pick (leb (length ws / 4) (at .packet .0)) 0 (pick (leb cap (at .byte .0)) 0 (textByte ws cap (at .packet .0) (at .byte .0)))
 
 abbrev pub stepped : TextStep → TextPlace → Stepped
 stepped s at = record { step = s; place = at }

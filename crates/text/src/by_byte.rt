@@ -1,10 +1,8 @@
 // Text handed out a byte at a time, by value: each step takes a place and gives the one after it.
 ghost use mathlib.Core.Path.{_≡_};
-ghost use Prim.Native.Nat.{_+_, _-_, _/_, _^_, _<_};
-ghost use lib.ListN.{length};
+ghost use Prim.Native.Nat.{_+_, _-_, _^_, _<_};
 ghost use Rattle.text.specs.Octets.{octetOf};
-ghost use Rattle.text.specs.Bytes.{textByte};
-ghost use Rattle.text.specs.Place.{stepped, stepAt};
+ghost use Rattle.text.specs.Place.{byteAt, stepped, stepAt};
 ghost use Rattle.text.specs.Handed.{startPlace, nextPlace};
 ghost use Rattle.text.specs.declared.TextStep.the-variants.{End};
 use crate::Stepped;
@@ -21,13 +19,22 @@ fn octet(word: u32, j: usize) -> u8
     ((word >> (24 - j * 8)) % 256) as u8
 }
 
-// The text byte at a place of a whole packet, within its text.
-fn text_byte(words: &[u32], offset: usize, at: TextPlace) -> u8
-    requires { ⌜ (at .packet .0 < length (now words) / 4) × (at .byte .0 + offset < 14) ⌝ }
-    ensures { λ r. ⌜ r ≡ textByte (now (words .entry)) (14 - offset) (at .packet .0) (at .byte .0) ⌝ }
+// The text byte at a place, and 0 where no whole packet has such a byte.
+pub fn text_byte(words: &[u32], offset: usize, at: TextPlace) -> u8
+    ensures { λ r. ⌜ r ≡ byteAt (now (words .entry)) (14 - offset) at ⌝ }
 {
     let p = at.packet.0;
-    let o = at.byte.0 + 2 + offset;
+    let b = at.byte.0;
+    if words.len() / 4 <= p {
+        return 0;
+    }
+    if 14 <= offset {
+        return 0;
+    }
+    if 14 - offset <= b {
+        return 0;
+    }
+    let o = b + 2 + offset;
     octet(words[p * 4 + o / 4], o % 4)
 }
 

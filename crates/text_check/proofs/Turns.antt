@@ -4,12 +4,12 @@ use mathlib.Core.Path.{_≡_, _∙_}
 use mathlib.Core.List.{List}
 use native.Mathlib.Omega.{arith}
 use native.Mathlib.Nat.{add-mul, one-mul, mul-zero, mul-le-mul-right}
-use lib.Arith.{digits-lt, digits-div, digits-mod}
+use lib.Arith.{digits-lt}
 use lib.ListN.{length, getD, drop}
 use Rattle.laws.specs.Lists.{tabulate, nonzero}
-use Rattle.laws.proofs.Lists.{length-tabulate, getD-tabulate}
 use Rattle.utf8.specs.Utf8.{firstBad}
 use Rattle.utf8.specs.Scan.{endedOf, unreadOf, readOf, verdictOn}
+use Rattle.counts.specs.Counts.{packet, byte}
 use Rattle.counts.specs.declared.TextByteNumber.{TextByteNumber}
 use Rattle.utf8.specs.declared.scan.Scan.the-variants.{Stopped}
 use Rattle.utf8.specs.declared.reading.Reading.{Reading}
@@ -17,19 +17,11 @@ use Rattle.utf8.specs.declared.Utf8.the-variants.{Good, BadAt}
 use Rattle.utf8.proofs.Steps.{unread-law, read-at, read-early, read-turn, read-finish}
 use Rattle.text.specs.Bytes.{textByte, allBytes, textOf}
 use Rattle.text.proofs.Back.{octet-small}
+use Rattle.text.proofs.Place.{length-all, all-at}
 
 byte-small : (ws : List ℕ) (cap p b : ℕ) → textByte ws cap p b < 256
 unfolding textByte
 byte-small ws cap p b = octet-small _ _
-
-length-all : (ws : List ℕ) (cap n : ℕ) → length (allBytes ws cap n) ≡ n * cap
-unfolding allBytes
-length-all ws cap n = length-tabulate (n * cap) _
-
--- byte b of packet p among the bytes of all packets
-at-byte : (ws : List ℕ) (cap n p b : ℕ) → b < cap → p < n → getD (allBytes ws cap n) (p * cap + b) 0 ≡ textByte ws cap p b
-unfolding allBytes
-at-byte ws cap n p b hb hp = getD-tabulate (n * cap) _ (p * cap + b) (digits-lt hp hb) ∙ rw (digits-div p hb, digits-mod p hb)
 
 -- where no byte of a packet is text, the text is empty
 pub no-text : (ws : List ℕ) (cap n : ℕ) → cap ≡ 0 → Good ≡ firstBad (textOf ws cap n)
@@ -55,7 +47,7 @@ module _ (ws : List ℕ) (cap n : ℕ) where
 
   pub turn : (q r : Reading) (p b : ℕ) → p < n → q .at .0 + 1 < 2 ^ 64 → Left q p b → r ≡ readOf q (textByte ws cap p b) → Passed r p b
   turn q r p b h k l e =
-      let v : getD (allBytes ws cap n) (p * cap + b) 0 ≡ textByte ws cap p b = at-byte ws cap n p b (l .low) h in
+      let v : getD (allBytes ws cap n) (p * cap + b) 0 ≡ textByte ws cap p b = all-at ws cap n (record { packet = packet p; byte = byte b }) h (l .low) in
       record {
         few = rw e (omega (arith, l .few, read-at q (textByte ws cap p b)));
         same = read-turn (allBytes ws cap n) q r (p * cap + b) (rw length-all (digits-lt h (l .low))) (rw v (byte-small ws cap p b)) k (rw v e) ∙ l .same;

@@ -5,6 +5,7 @@ use native.Mathlib.Omega.{arith}
 use borrow.Author.Needs.{needs}
 use lib.ListN.{length}
 use Rattle.utf8.specs.Scan.{readOf}
+use Rattle.text.proofs.Place.{byte-in}
 use Rattle.text_check.proofs.Turns.{Left, Passed, no-text, begin, turn, stop, on, over, finish}
 use Rattle.text_check.proofs.check_text.Statement.{statement}
 use Rattle.text_check.proofs.check_text.Tie as tie
@@ -35,7 +36,7 @@ passed : (c : tie.After-read-byte Inv-loop μ-loop) → Passed (c .before .befor
 passed c =
     let l = c .before .before .before in
     let start = l .before .before .before .before in
-    turn _ _ _ (l .loop .r) _ (l .loop .p) (l .loop .b) (c .before .before .loop-test .taken) (omega (arith, start .good .0 .1, l .loop .inv .few, l .loop .inv .low)) (l .loop .inv) (c .read-byte .ensures ∙ ap (readOf _) (c .before .text-byte .ensures))
+    turn _ _ _ (l .loop .r) _ (l .loop .p) (l .loop .b) (c .before .before .loop-test .taken) (omega (arith, start .good .0 .1, l .loop .inv .few, l .loop .inv .low)) (l .loop .inv) (c .read-byte .ensures ∙ ap (readOf _) (c .before .text-byte .ensures ∙ byte-in _ _ _ (c .before .before .loop-test .taken) (l .loop .inv .low)))
 
 enum-known-s : tie.Need-enum-known-s Inv-loop μ-loop
 enum-known-s c = search needs

@@ -7,7 +7,7 @@ use lib.ListN.{length}
 use borrow.Author.Needs.{needs}
 use Rattle.text.specs.Place.{byteFrom, stepAt}
 use Rattle.text.specs.declared.TextPlace.{TextPlace}
-use Rattle.text.proofs.Place.{next-back, next-low, place-inside, step-past, step-over, step-zero, step-byte}
+use Rattle.text.proofs.Place.{byte-in, next-back, next-low, place-inside, step-past, step-over, step-zero, step-byte}
 use Rattle.text.proofs.by_byte.step.Statement.{statement}
 use Rattle.text.proofs.by_byte.step.Tie as tie
 
@@ -40,7 +40,7 @@ loop-holds : tie.Need-loop-holds Inv-loop μ-loop
 loop-holds c = record { low = omega arith; same = refl }
 
 text-byte-requires : tie.Need-text-byte-requires Inv-loop μ-loop
-text-byte-requires c κs = (c .if3 .taken, omega arith)
+text-byte-requires c κs = search needs
 
 sub-advanced : tie.Need-sub-advanced Inv-loop μ-loop
 sub-advanced c = search needs
@@ -51,8 +51,9 @@ advanced-requires c κs = (omega arith, omega arith)
 returns-3 : tie.Need-returns-3 Inv-loop μ-loop
 returns-3 c =
     let l = c .before .before .before .before .before .loop in
-    rw (c .before .before .text-byte .ensures, c .before .advanced .ensures)
-    (sym (l .inv .same ∙ step-byte _ _ (l .place) (c .before .before .before .if3 .taken) (l .inv .low) (λ e. c .if4 .taken (c .before .before .text-byte .ensures ∙ e))))
+    let is = c .before .before .text-byte .ensures ∙ byte-in _ _ (l .place) (c .before .before .before .if3 .taken) (l .inv .low) in
+    rw (is, c .before .advanced .ensures)
+    (sym (l .inv .same ∙ step-byte _ _ (l .place) (c .before .before .before .if3 .taken) (l .inv .low) (λ e. c .if4 .taken (is ∙ e))))
 
 loop-less : tie.Need-loop-less Inv-loop μ-loop
 loop-less c =
@@ -67,7 +68,7 @@ loop-again c =
     rw (c .before .advanced .ensures)
     (record {
       low = next-low _ (l .place) (omega arith);
-      same = l .inv .same ∙ step-zero _ _ (l .place) (c .before .before .before .if3 .taken) (l .inv .low) (sym (c .before .before .text-byte .ensures) ∙ c .if4 .left);
+      same = l .inv .same ∙ step-zero _ _ (l .place) (c .before .before .before .if3 .taken) (l .inv .low) (sym (c .before .before .text-byte .ensures ∙ byte-in _ _ (l .place) (c .before .before .before .if3 .taken) (l .inv .low)) ∙ c .if4 .left);
     })
 
 ended-requires-3 : tie.Need-ended-requires-3 Inv-loop μ-loop

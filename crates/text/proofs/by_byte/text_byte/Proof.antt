@@ -1,11 +1,28 @@
--- `text::by_byte::text_byte`: the octets before a packet's text are two and the offset.
 use Prim.Native.Nat.{_+_, _-_}
-use mathlib.Core.Path.{_≡_}
+use mathlib.Core.Path.{_≡_, refl}
 use native.Mathlib.Omega.{arith}
+use borrow.Author.Tests.{le-leb, lt-leb}
+use Rattle.laws.proofs.Pick.{here, past}
 use Rattle.text.specs.Bytes.{textByte}
+use Rattle.text.specs.Place.{byteAt}
 use borrow.Author.Needs.{needs}
 use Rattle.text.proofs.by_byte.text_byte.Statement.{statement}
 use Rattle.text.proofs.by_byte.text_byte.Tie as tie
+
+returns : tie.Need-returns
+unfolding byteAt
+returns c = here _ (le-leb _ _ (c .if1 .taken)) refl
+
+returns-2 : tie.Need-returns-2
+unfolding byteAt
+returns-2 c = let a = c .before .before .before .args in past _ (lt-leb _ _ (c .before .if1 .left)) (here _ (le-leb (14 - a .offset) (a .at .byte .0) (omega arith)) refl)
+
+sub-if3 : tie.Need-sub-if3
+sub-if3 c = search needs
+
+returns-3 : tie.Need-returns-3
+unfolding byteAt
+returns-3 c = past _ (lt-leb _ _ (c .before .before .if1 .left)) (here _ (le-leb _ _ (c .if3 .taken)) refl)
 
 add-o : tie.Need-add-o
 add-o c = search needs
@@ -28,17 +45,18 @@ shared-slice-read-octet c = search needs
 octet-requires : tie.Need-octet-requires
 octet-requires c κs = search needs
 
-returns : tie.Need-returns
-unfolding textByte
-returns c =
-    let a = c .before .before .before .before .args in
-    let e : a .at .byte .0 + 2 + a .offset ≡ 16 - (14 - a .offset) + a .at .byte .0 = omega arith in
-    rw (← e) (c .octet .ensures)
+returns-4 : tie.Need-returns-4
+unfolding byteAt textByte
+returns-4 c = let a = c .before .before .before .before .before .before .args in let e : a .at .byte .0 + 2 + a .offset ≡ 16 - (14 - a .offset) + a .at .byte .0 = omega arith in past _ (lt-leb _ _ (c .before .before .before .before .if1 .left)) (past _ (lt-leb _ _ (c .before .before .if3 .left)) (rw (← e) (c .octet .ensures)))
 
 pub text-byte-spec : {M : Type 1} → statement M
 text-byte-spec =
     tie.close
     (tie.spec
+    returns
+    returns-2
+    sub-if3
+    returns-3
     add-o
     add-o-2
     mul-octet
@@ -46,4 +64,4 @@ text-byte-spec =
     mul-octet-2
     shared-slice-read-octet
     octet-requires
-    returns)
+    returns-4)
