@@ -1,0 +1,99 @@
+-- What the buffer of given values holds, packet by packet, and that it is then a message of their record. Closed by fields of a head.
+use Prim.Native.Nat.{ℕ, _*_, _≤_, _<_}
+use mathlib.Core.Path.{_≡_, refl, subst}
+use mathlib.Core.Bool.{true}
+use mathlib.Core.List.{List, [], _∷_}
+use native.Mathlib.Omega.{arith}
+use lib.ListN.{length, take}
+use borrow.Author.Tests.{ltb-true, lt-ltb}
+use Rattle.laws.specs.Bits.{fieldOf}
+use Rattle.laws.specs.Lists.{nonzero}
+use Rattle.laws.proofs.Pick.{both-left, both-right, both-true}
+use Rattle.slots.specs.Slots.{Slot, low, reads}
+use Rattle.utf8.proofs.Zeros.{nonzero-valid}
+use Rattle.text.specs.Octets.{due}
+use Rattle.text.specs.Bytes.{textOf}
+use Rattle.text.proofs.Needed.{due-small}
+use Rattle.kinds.specs.declared.kind.Kind.{Kind}
+use Rattle.kinds.specs.Fields.{Field}
+use Rattle.kinds.specs.Layout.{Part, Body, fixed, texts, Row, layout, capacityIn, parts, right, rightBody}
+use Rattle.kinds.proofs.Rows.{rows-right, status-small}
+use Rattle.records.specs.Records.{kindIn, packetsIn, recordOf}
+use Rattle.standard.specs.Heads.{typeOf, formatOf, statusOf, streamType, headWord, packetFrom, headAt}
+use Rattle.standard.specs.Formed.{Formed}
+use Rattle.standard.proofs.Fields.{record-kind, record-packets}
+use Rattle.promises.specs.Good.{textFor, packetsFor, Good}
+use Rattle.promises.proofs.Values.{values-held}
+use Rattle.promises.proofs.Front.{Starts, starts-formed}
+
+-- the sixteen high bits of a head
+abbrev pub headBits : ℕ → ℕ
+headBits w = fieldOf w 16 16
+
+head-parts : (w st f : ℕ) → st < 0x400 → f < 4 → headBits w ≡ headBits (headWord st f) → (typeOf w ≡ streamType) × (formatOf w ≡ f) × (statusOf w ≡ st)
+head-parts w st f hs hf e = (omega arith, omega arith, omega arith)
+
+-- n packets of a row with these values
+pub record Laid (b : Body) (r : Row) (n : ℕ) (v : Field → List ℕ) (ws : List ℕ) : Type 0 where
+  pub some : 1 ≤ n
+  pub room : n * 4 ≤ length ws
+  pub heads : (p : ℕ) → p < n → headBits (headAt ws p) ≡ headBits (headWord (r .status) (due n p))
+  pub fields : (p : ℕ) → p < n → reads (r .fields) (parts v) (packetFrom ws p)
+  pub text : textOf ws (capacityIn b) n ≡ nonzero (textFor b v)
+
+-- ---- what every row keeps
+low-more : {K : Type 0} (m n : ℕ) (t : List (Slot K)) → m ≤ n → low m t ≡ true → low n t ≡ true
+unfolding low
+low-more m n [] h l = refl
+low-more m n (s ∷ ss) h l =
+    let a : s .word < m = ltb-true _ _ (both-left _ _ l) in
+    both-true _ _ (lt-ltb (s .word) n (omega arith)) (low-more m n ss h (both-right _ _ l))
+
+body-low : (b : Body) (t : List (Slot Part)) → rightBody b t ≡ true → low 4 t ≡ true
+unfolding rightBody
+body-low fixed t e = e
+body-low (texts x from) t e = low-more 1 4 t (omega arith) (both-right _ _ (both-right _ _ e))
+
+capacity-16 : (b : Body) → capacityIn b ≤ 16
+capacity-16 fixed = omega arith
+capacity-16 (texts x from) = omega arith
+
+row-low : (k : Kind) → low 4 (layout k .fields) ≡ true
+unfolding right
+row-low k = body-low (layout k .body) (layout k .fields) (both-right _ _ (both-right _ _ (rows-right k)))
+
+-- ---- THE MESSAGE: its record, and its text with zeros dropped
+module _ (k : Kind) (room : ℕ) (v : Field → List ℕ) (ws : List ℕ) (g : Good k room v) (l : Laid (layout k .body) (layout k) (packetsFor (layout k .body) v) v ws) where
+  abbrev count : ℕ
+  count = packetsFor (layout k .body) v
+
+  packets : packetsIn (recordOf k count v) ≡ count
+  packets = record-packets k count v (l .some) (g .most)
+
+  kind : kindIn (recordOf k count v) ≡ k
+  kind = record-kind k count v
+
+  head-at : (p : ℕ) → p < count → (typeOf (headAt ws p) ≡ streamType) × (formatOf (headAt ws p) ≡ due count p) × (statusOf (headAt ws p) ≡ layout k .status)
+  head-at p h = head-parts (headAt ws p) (layout k .status) (due count p) (status-small k) (due-small count p) (l .heads p h)
+
+  below : (p : ℕ) → p < packetsIn (recordOf k count v) → p < count
+  below p h = rw packets at h
+
+  starts : Starts (recordOf k count v) (nonzero (textFor (layout k .body) v)) ws
+  starts =
+      record {
+        some = rw packets (l .some);
+        most = rw (packets, kind) (g .most);
+        room = rw packets (l .room);
+        type = λ p h. head-at p (below p h) .0;
+        format = λ p h. rw packets (head-at p (below p h) .1);
+        status = λ p h. rw kind (head-at p (below p h) .2);
+        fields = λ p h. rw kind (values-held count v (packetFrom ws p) k (l .fields p (below p h)) (g .port) (g .direction));
+        text = rw (packets, kind) (l .text);
+        valid = nonzero-valid (g .valid);
+      }
+
+  pub laid-formed : Formed (recordOf k count v) (nonzero (textFor (layout k .body) v)) (take (count * 4) ws)
+  laid-formed =
+      subst (λ (n : ℕ). Formed (recordOf k count v) (nonzero (textFor (layout k .body) v)) (take (n * 4) ws)) packets
+      (starts-formed (recordOf k count v) _ ws (rw kind (row-low k)) (rw kind (capacity-16 (layout k .body))) starts)

@@ -1,0 +1,43 @@
+-- Laws of a table of slots over words that agree, and of values that fit. By induction on the table.
+use Prim.Native.Nat.{ℕ, _^_, _<_}
+use mathlib.Core.Path.{_≡_, refl, sym, ap, _∙_, subst}
+use mathlib.Core.Bool.{Bool, true, false}
+use mathlib.Core.List.{List, [], _∷_}
+use lib.ListN.{getD}
+use borrow.Author.Tests.{ltb-true, lt-ltb}
+use Rattle.laws.specs.Pick.{pick}
+use Rattle.laws.specs.Bits.{fieldOf}
+use Rattle.laws.specs.Lists.{map}
+use Rattle.laws.proofs.Pick.{both-left, both-right, both-true}
+use Rattle.slots.specs.Slots.{Slot, get, put, putAll, those, fits, low, reads}
+use Rattle.slots.proofs.Slots.{get-small}
+
+-- a table reads alike in words that agree as far as it reaches
+pub reads-words : {K : Type 0} (n : ℕ) (t : List (Slot K)) (v : K → ℕ) (a b : List ℕ) → low n t ≡ true → ((i : ℕ) → i < n → getD a i 0 ≡ getD b i 0) → reads t v a → reads t v b
+unfolding reads low get
+reads-words n [] v a b l e r = tt
+reads-words n (s ∷ ss) v a b l e r =
+    (ap (λ (w : ℕ). fieldOf w (s .at) (s .span)) (sym (e (s .word) (ltb-true _ _ (both-left _ _ l)))) ∙ r .0, reads-words n ss v a b (both-right _ _ l) e (r .1))
+
+-- values that are read from the same words are put alike
+pub put-alike : {K : Type 0} (t : List (Slot K)) (u v : K → ℕ) (a ws : List ℕ) → reads t u a → reads t v a → putAll t u ws ≡ putAll t v ws
+unfolding reads putAll
+put-alike [] u v a ws p q = refl
+put-alike (s ∷ ss) u v a ws p q =
+    ap (λ (x : ℕ). put s x (putAll ss u ws)) (sym (p .0) ∙ q .0) ∙ ap (put s (v (s .key))) (put-alike ss u v a ws (p .1) (q .1))
+
+-- what is read fits
+pub reads-fits : {K : Type 0} (t : List (Slot K)) (v : K → ℕ) (ws : List ℕ) → reads t v ws → fits t v ≡ true
+unfolding reads fits
+reads-fits [] v ws r = refl
+reads-fits (s ∷ ss) v ws r = both-true _ _ (lt-ltb _ _ (subst (λ (x : ℕ). x < 2 ^ s .span) (r .0) (get-small s ws))) (reads-fits ss v ws (r .1))
+
+-- words that hold the same are read alike, by any slots of the table
+pub gets-alike : {K : Type 0} (t : List (Slot K)) (v : K → ℕ) (test : K → Bool) (a b : List ℕ) → reads t v a → reads t v b → map (λ s. get s a) (those test t) ≡ map (λ s. get s b) (those test t)
+unfolding reads those map
+gets-alike [] v test a b p q = refl
+gets-alike (s ∷ ss) v test a b p q = go (test (s .key)) (gets-alike ss v test a b (p .1) (q .1))
+  where
+    go : (c : Bool) → map (λ s. get s a) (those test ss) ≡ map (λ s. get s b) (those test ss) → map (λ s. get s a) (pick c (s ∷ those test ss) (those test ss)) ≡ map (λ s. get s b) (pick c (s ∷ those test ss) (those test ss))
+    go true e = ap (λ (x : ℕ). x ∷ map (λ s. get s a) (those test ss)) (p .0 ∙ sym (q .0)) ∙ ap (λ (l : List ℕ). get s b ∷ l) e
+    go false e = e

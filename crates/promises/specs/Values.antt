@@ -1,0 +1,38 @@
+-- The message of given values, and the values after one setting and after a list.
+use Prim.Native.Nat.{ℕ, _*_}
+use mathlib.Core.List.{List}
+use lib.ListN.{take}
+use Rattle.laws.specs.Pick.{pick, both}
+use Rattle.kinds.specs.declared.kind.Kind.{Kind}
+use Rattle.kinds.specs.Fields.{Field, Setting, fieldIn, valueIn, same, start}
+use Rattle.kinds.specs.Layout.{layout}
+use Rattle.records.specs.declared.message.Message.{Message}
+use Rattle.records.specs.Records.{recordOf}
+use Rattle.standard.specs.Words.{answerTo, encode}
+use Rattle.standard.specs.Lists.{Told, isDone, last}
+use Rattle.promises.specs.Good.{textFor, packetsFor}
+
+-- its packets, its record, its text as it was given, and its words in a buffer
+abbrev pub packetsNeeded : Kind → (Field → List ℕ) → ℕ
+packetsNeeded k v = packetsFor (layout k .body) v
+
+abbrev pub recordFor : Kind → (Field → List ℕ) → Message
+recordFor k v = recordOf k (packetsNeeded k v) v
+
+abbrev pub textGiven : Kind → (Field → List ℕ) → List ℕ
+textGiven k v = textFor (layout k .body) v
+
+abbrev pub wordsFor : Kind → List ℕ → (Field → List ℕ) → List ℕ
+wordsFor k ws v = take (packetsNeeded k v * 4) (encode k ws v)
+
+-- the values after a setting: the field's new one, where it is accepted
+abbrev pub changed : Kind → ℕ → Setting → (Field → List ℕ) → Field → List ℕ
+changed k room s v f = pick (both (isDone (answerTo (layout k) room s)) (same f (fieldIn s))) (valueIn s) (v f)
+
+-- after a list, from a fresh message on: each field's last accepted value, or its start
+abbrev pub lasting : Kind → ℕ → List Setting → Field → List ℕ
+lasting k room ss f = last k room f (start f) ss
+
+-- the field of a setting that was answered
+abbrev pub fieldTold : Told → Field
+fieldTold t = fieldIn (t .setting)
