@@ -70,6 +70,13 @@ upTo-kept i f [] h e = absurd (omega arith)
 upTo-kept zero f (w ∷ ws) h e = ap (λ (x : ℕ). x ∷ ws) e
 upTo-kept (suc i) f (w ∷ ws) h e = ap (λ (l : List ℕ). f zero ∷ l) (upTo-kept i (λ k. f (suc k)) ws (omega arith) e)
 
+-- what is written twice is what was written last
+pub upTo-over : (i : ℕ) (f g : ℕ → ℕ) (ws : List ℕ) → upTo i f (upTo i g ws) ≡ upTo i f ws
+unfolding upTo
+upTo-over zero f g ws = refl
+upTo-over (suc i) f g [] = refl
+upTo-over (suc i) f g (w ∷ ws) = ap (λ (l : List ℕ). f zero ∷ l) (upTo-over i (λ k. f (suc k)) (λ k. g (suc k)) ws)
+
 -- ---- nonzero: which elements are dropped, and that the others keep their order
 pub nonzero-zero : (x : ℕ) (xs : List ℕ) → x ≡ 0 → nonzero (x ∷ xs) ≡ nonzero xs
 unfolding nonzero

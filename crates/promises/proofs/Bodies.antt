@@ -18,7 +18,7 @@ use Rattle.records.specs.Settings.{with}
 use Rattle.standard.specs.Heads.{headWord, packetsOf}
 use Rattle.standard.specs.Words.{encodeIn, actIn}
 use Rattle.promises.specs.Good.{packetsFor, GoodIn}
-use Rattle.promises.specs.Tables.{within}
+use Rattle.slots.specs.Slots.{within}
 use Rattle.promises.proofs.Changed.{Accepted}
 use Rattle.promises.proofs.Laid.{Laid}
 use Rattle.promises.proofs.Fixed.{fixed-length, fixed-acted, fixed-laid}

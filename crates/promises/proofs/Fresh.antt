@@ -20,7 +20,7 @@ use Rattle.standard.specs.Heads.{headWord}
 use Rattle.standard.specs.Words.{putWord, headOf, encodeIn}
 use Rattle.promises.proofs.OneWord.{put-first}
 use Rattle.promises.proofs.TextHead.{empty-first, head-first}
-use Rattle.promises.proofs.Rewritten.{head-zero}
+use Rattle.text.proofs.Rewritten.{head-zero}
 use Rattle.promises.proofs.Texts.{TextRow}
 
 -- ---- blank words: the head, and what comes after it whatever the head

@@ -18,7 +18,7 @@ use Rattle.records.specs.declared.message.Message.{Message}
 use Rattle.records.specs.Records.{kindIn, packetsIn, valuesOf}
 use Rattle.standard.specs.Heads.{typeOf, formatOf, statusOf, streamType, packetFrom, headAt}
 use Rattle.standard.specs.Formed.{Formed}
-use Rattle.promises.proofs.Tables.{reads-words}
+use Rattle.slots.proofs.Tables.{reads-words}
 
 module _ (ws : List ℕ) (n : ℕ) (room : n * 4 ≤ length ws) where
   front-head : (p : ℕ) → p < n → headAt (take (n * 4) ws) p ≡ headAt ws p

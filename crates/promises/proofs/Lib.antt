@@ -1,5 +1,4 @@
 pub mod Walks
-pub mod Tables
 pub mod Values
 pub mod Front
 pub mod Laid
@@ -8,7 +7,6 @@ pub mod Changed
 pub mod Fixed
 pub mod OneWord
 pub mod TextHead
-pub mod Rewritten
 pub mod Texts
 pub mod Fresh
 pub mod Bodies

@@ -16,7 +16,7 @@ use Rattle.text.proofs.Needed.{due-small}
 use Rattle.kinds.specs.Layout.{Part, textSlot}
 use Rattle.standard.specs.Heads.{headWord}
 use Rattle.standard.specs.Words.{putWord}
-use Rattle.promises.specs.Tables.{within}
+use Rattle.slots.specs.Slots.{within}
 use Rattle.promises.proofs.OneWord.{word-small, put-head}
 
 -- ---- a word from its octets: all of them, or the low ones changed

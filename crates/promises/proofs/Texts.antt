@@ -24,11 +24,11 @@ use Rattle.records.specs.Settings.{with}
 use Rattle.standard.specs.Heads.{headWord, packetsOf, packetFrom, headAt}
 use Rattle.standard.specs.Words.{putWord, headOf, textWritten, encodeIn, actIn}
 use Rattle.promises.specs.Good.{GoodIn}
-use Rattle.promises.specs.Tables.{within}
-use Rattle.promises.proofs.Tables.{reads-words, put-alike}
+use Rattle.slots.specs.Slots.{within}
+use Rattle.slots.proofs.Tables.{reads-words, put-alike}
 use Rattle.promises.proofs.OneWord.{put-those-word}
 use Rattle.promises.proofs.TextHead.{lowText, first-splits, head-small, head-first}
-use Rattle.promises.proofs.Rewritten.{written-over, each-first}
+use Rattle.text.proofs.Rewritten.{written-over, each-first}
 use Rattle.promises.proofs.Laid.{headBits, Laid}
 use Rattle.promises.proofs.With.{same-true, same-refl, same-swap, parts-with, parts-text, value-text}
 use Rattle.promises.proofs.Changed.{Accepted, good-with}

@@ -29,7 +29,7 @@ use Rattle.standard.specs.Words.{Left, left, unchanged, noPacket, hasText, enco
 use Rattle.standard.proofs.Formed.{read-formed}
 use Rattle.promises.specs.Good.{textFor, packetsFor, Good}
 use Rattle.promises.specs.Values.{packetsNeeded, recordFor}
-use Rattle.promises.proofs.Tables.{reads-fits, gets-alike}
+use Rattle.slots.proofs.Tables.{reads-fits, gets-alike}
 use Rattle.promises.proofs.Changed.{refused-done}
 use Rattle.promises.proofs.Encode.{encode-holds, encode-read}
 

@@ -60,6 +60,11 @@ unfoldable pub low : {K : Type 0} → ℕ → List (Slot K) → Bool
 low n [] = true
 low n (s ∷ ss) = both (ltb (s .word) n) (low n ss)
 
+-- each slot ends within n bits
+unfoldable pub within : {K : Type 0} → ℕ → List (Slot K) → Bool
+within n [] = true
+within n (s ∷ ss) = both (leb (s .at + s .span) n) (within n ss)
+
 -- each slot holds its value
 unfoldable pub reads : {K : Type 0} → List (Slot K) → (K → ℕ) → List ℕ → Type 0
 reads [] v ws = Unit {0}

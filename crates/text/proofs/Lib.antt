@@ -2,3 +2,4 @@ pub mod Needed
 pub mod Written
 pub mod Back
 pub mod Place
+pub mod Rewritten

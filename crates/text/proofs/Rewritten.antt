@@ -12,16 +12,9 @@ use borrow.Author.Tests.{eqb-true, eqb-false, le-ltb}
 use Rattle.laws.specs.Pick.{pick}
 use Rattle.laws.specs.Lists.{upTo}
 use Rattle.laws.proofs.Pick.{below}
-use Rattle.laws.proofs.Lists.{length-upTo, upTo-below, upTo-rest}
+use Rattle.laws.proofs.Lists.{length-upTo, upTo-below, upTo-rest, upTo-over}
 use Rattle.text.specs.Written.{headOctet, octetAt, wordIn, wordNew, wholeWords, written, eachFirst}
 use Rattle.text.proofs.Written.{octet-head, octet-text, word-text, word-zero, length-written, at-whole, at-rest}
-
--- ---- lists: what is written twice is what was written last
-upTo-over : (i : ℕ) (f g : ℕ → ℕ) (ws : List ℕ) → upTo i f (upTo i g ws) ≡ upTo i f ws
-unfolding upTo
-upTo-over zero f g ws = refl
-upTo-over (suc i) f g [] = refl
-upTo-over (suc i) f g (w ∷ ws) = ap (λ (l : List ℕ). f zero ∷ l) (upTo-over i (λ k. f (suc k)) (λ k. g (suc k)) ws)
 
 pub written-over : (ws a b : List ℕ) (h h′ : ℕ → ℕ) (cap n n′ : ℕ) → written (written ws a h cap n) b h′ cap n′ ≡ written ws b h′ cap n′
 unfolding written
