@@ -6,16 +6,16 @@ use mathlib.Core.List.{List, [], _∷_}
 use native.Mathlib.Omega.{arith}
 use Rattle.laws.specs.Pick.{both}
 use Rattle.laws.specs.Lists.{map, each}
-use Rattle.slots.specs.Slots.{Slot, mask, sound, clear, low, apart}
+use Rattle.slots.specs.Slots.{Slot, mask, sound, clear, low, within, apart}
 use Rattle.kinds.specs.declared.kind.Kind.{Kind}
 use Rattle.kinds.specs.declared.kind.Kind.the-variants as K
 use Rattle.kinds.specs.declared.kind.Known.the-variants.{Is}
 use Rattle.kinds.specs.Fields.{Field}
 use Rattle.kinds.specs.Layout.{Part, layout, kindOf, among, right, rightBody, discoveryFields, infoFields, identityFields, blockFields, nameFields}
 
--- no two fields of a kind share a bit, none touches the head or the text
+-- no two fields of a kind share a bit, none touches the head or the text or leaves its word
 pub rows-right : (k : Kind) → right (layout k) ≡ true
-unfolding right rightBody layout sound clear low apart both
+unfolding right rightBody layout sound clear low within apart both
 rows-right K.EndpointDiscovery = refl
 rows-right K.EndpointInfo = refl
 rows-right K.DeviceIdentity = refl

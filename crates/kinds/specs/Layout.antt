@@ -7,7 +7,7 @@ use lib.ListN.{length, getD}
 use lib.Dec.{eqb, leb}
 use Rattle.laws.specs.Pick.{pick, both}
 use Rattle.laws.specs.Lists.{map}
-use Rattle.slots.specs.Slots.{Slot, get, those, clear, sound, low}
+use Rattle.slots.specs.Slots.{Slot, get, those, clear, sound, low, within}
 use Rattle.kinds.specs.declared.kind.Kind.{Kind}
 use Rattle.kinds.specs.declared.kind.Kind.the-variants as K
 use Rattle.kinds.specs.declared.kind.Known.{Known}
@@ -168,7 +168,7 @@ held f (x ∷ xs) = joined f (x ∷ xs)
 unfoldable pub valuesIn : List (Slot Part) → List ℕ → Field → List ℕ
 valuesIn t ws f = held f (map (λ s. get s ws) (slotsOf f t))
 
--- ---- the test of a row: no two fields share a bit, none touches the head or the text, and text leaves room for the head
+-- ---- the test of a row: no two fields share a bit, none touches the head or the text or leaves its word, and text leaves room for the head
 abbrev pub headSlot : Slot ℕ
 headSlot = record { word = 0; at = 16; span = 16; key = 0 }
 
@@ -181,4 +181,4 @@ rightBody fixed t = low 4 t
 rightBody (texts text start) t = both (both (leb 2 start) (leb start 15)) (both (clear (textSlot start) t) (low 1 t))
 
 unfoldable pub right : Row → Bool
-right r = both (sound (r .fields)) (both (clear headSlot (r .fields)) (rightBody (r .body) (r .fields)))
+right r = both (sound (r .fields)) (both (clear headSlot (r .fields)) (both (within 32 (r .fields)) (rightBody (r .body) (r .fields))))

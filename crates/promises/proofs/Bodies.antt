@@ -25,7 +25,7 @@ use Rattle.promises.proofs.Fixed.{fixed-length, fixed-acted, fixed-laid
 use Rattle.promises.proofs.Texts.{TextRow, text-length, text-laid, text-acted}
 use Rattle.promises.proofs.Fresh.{text-fresh}
 
--- a row that is right, and its slots within a word
+-- a row that is right, by its parts
 pub record RowRight (b : Body) (r : Row) : Type 0 where
   pub sound : sound (r .fields) ≡ true
   pub head : clear headSlot (r .fields) ≡ true
@@ -33,22 +33,11 @@ pub record RowRight (b : Body) (r : Row) : Type 0 where
   pub bits : within 32 (r .fields) ≡ true
   pub status : r .status < 0x400
 
--- the test of the table's bits, computed at each kind
-rows-within : (k : Kind) → within 32 (layout k .fields) ≡ true
-unfolding within layout both
-rows-within K.EndpointDiscovery = refl
-rows-within K.EndpointInfo = refl
-rows-within K.DeviceIdentity = refl
-rows-within K.EndpointName = refl
-rows-within K.ProductInstanceId = refl
-rows-within K.FunctionBlockInfo = refl
-rows-within K.FunctionBlockName = refl
-
 pub row-right : (k : Kind) → RowRight (layout k .body) (layout k)
 unfolding right
 row-right k =
     let e = rows-right k in
-    record { sound = both-left _ _ e; head = both-left _ _ (both-right _ _ e); body = both-right _ _ (both-right _ _ e); bits = rows-within k; status = status-small k }
+    record { sound = both-left _ _ e; head = both-left _ _ (both-right _ _ e); bits = both-left _ _ (both-right _ _ (both-right _ _ e)); body = both-right _ _ (both-right _ _ (both-right _ _ e)); status = status-small k }
 
 text-row : (r : Row) (x : Text) (from : ℕ) → RowRight (texts x from) r → TextRow r from
 unfolding rightBody

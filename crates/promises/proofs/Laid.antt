@@ -60,7 +60,7 @@ capacity-16 (texts x from) = omega arith
 
 row-low : (k : Kind) → low 4 (layout k .fields) ≡ true
 unfolding right
-row-low k = body-low (layout k .body) (layout k .fields) (both-right _ _ (both-right _ _ (rows-right k)))
+row-low k = body-low (layout k .body) (layout k .fields) (both-right _ _ (both-right _ _ (both-right _ _ (rows-right k))))
 
 -- ---- THE MESSAGE: its record, and its text with zeros dropped
 module _ (k : Kind) (room : ℕ) (v : Field → List ℕ) (ws : List ℕ) (g : Good k room v) (l : Laid (layout k .body) (layout k) (packetsFor (layout k .body) v) v ws) where
