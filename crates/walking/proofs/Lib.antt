@@ -1,0 +1,4 @@
+pub mod Turns
+pub mod Next
+pub mod Stands
+pub mod Visits

@@ -1,0 +1,152 @@
+// Walks a stream of words: at a position, the end, another type, a message or a refusal, and where to go on.
+ghost use mathlib.Core.Path.{_≡_};
+ghost use Prim.Native.Nat.{_<_};
+ghost use lib.ListN.{length};
+ghost use Rattle.standard.specs.Walk.{sizeOf, stepOf, frameOf, walkedOf, framedOf, otherOf, walkOf};
+use counts::PacketNumber;
+use counts::WordNumber;
+use kinds::refusal::Refusal;
+use reading::heads::format_of;
+use reading::heads::status_of;
+use reading::heads::type_of;
+use records::answers::Read;
+use records::answers::Walked;
+use standard::Framed;
+use standard::Step;
+
+// The words of a message of a type.
+pub fn size_of(ump_type: u32) -> usize
+    ensures { λ r. ⌜ r ≡ sizeOf «ump_type» ⌝ }
+{
+    match ump_type {
+        0 | 1 | 2 | 6 | 7 => 1,
+        3 | 4 | 8 | 9 | 10 => 2,
+        11 | 12 => 3,
+        _ => 4,
+    }
+}
+
+// Outside a message, at packet 0, only Complete or Start may come; inside only Continue or End.
+fn step_of(p: usize, format: u8) -> Step
+    ensures { λ r. ⌜ r ≡ stepOf p format ⌝ }
+{
+    if p == 0 {
+        return match format {
+            0 => Step::Ends,
+            1 => Step::Goes,
+            _ => Step::Wrong,
+        };
+    }
+    match format {
+        3 => Step::Ends,
+        2 => Step::Goes,
+        _ => Step::Wrong,
+    }
+}
+
+// The packets of the message that starts at `pos`. Where packet 64 is due there are too many, even with no words left.
+fn frame(words: &[u32], pos: usize) -> Framed
+    requires { ⌜ pos < length (now words) ⌝ }
+    ensures { λ r. ⌜ r ≡ frameOf (now (words .entry)) pos ⌝ }
+{
+    let status = status_of(words[pos]);
+    let mut p = 0;
+    let mut at = pos;
+    while p < 64 {
+        if words.len() - at < 4 {
+            return Framed::Short;
+        }
+        let w = words[at];
+        if type_of(w) != 15 {
+            return Framed::Broken(Refusal::WrongType(PacketNumber(p)));
+        }
+        if status_of(w) != status {
+            return Framed::Broken(Refusal::StatusDiffers(PacketNumber(p)));
+        }
+        let step = step_of(p, format_of(w));
+        match step {
+            Step::Ends => {
+                return Framed::Whole(PacketNumber(p + 1));
+            }
+            Step::Goes => {}
+            Step::Wrong => {
+                return Framed::Broken(Refusal::WrongFormat(PacketNumber(p)));
+            }
+        }
+        p += 1;
+        at += 4;
+    }
+    Framed::Broken(Refusal::TooManyPackets)
+}
+
+// Another type; with words missing it is refusal 1.
+fn walk_other(ump_type: u32, words: &[u32], pos: usize) -> Walked
+    requires { ⌜ pos < length (now words) ⌝ }
+    ensures { λ r. ⌜ r ≡ otherOf «ump_type» (now (words .entry)) pos ⌝ }
+{
+    let size = size_of(ump_type);
+    if words.len() - pos < size {
+        return Walked::Refused {
+            refusal: Refusal::TooFewWords,
+            next: WordNumber(words.len()),
+        };
+    }
+    Walked::Other {
+        ump_type,
+        size: WordNumber(size),
+        next: WordNumber(pos + size),
+    }
+}
+
+// What was read, with the word after it.
+fn walk_read(read: Read, next: usize) -> Walked
+    ensures { λ r. ⌜ r ≡ walkedOf read next ⌝ }
+{
+    match read {
+        Read::Message(message) => Walked::Message {
+            message,
+            next: WordNumber(next),
+        },
+        Read::Refused(refusal) => Walked::Refused {
+            refusal,
+            next: WordNumber(next),
+        },
+    }
+}
+
+// A message: framed, and then read. After refusal 1 the next position is the length, after the others of framing four words on.
+fn walk_framed(words: &[u32], pos: usize) -> Walked
+    requires { ⌜ pos < length (now words) ⌝ }
+    ensures { λ r. ⌜ r ≡ framedOf (frameOf (now (words .entry)) pos) (now (words .entry)) pos ⌝ }
+{
+    let f = frame(words, pos);
+    match f {
+        Framed::Short => Walked::Refused {
+            refusal: Refusal::TooFewWords,
+            next: WordNumber(words.len()),
+        },
+        Framed::Broken(refusal) => Walked::Refused {
+            refusal,
+            next: WordNumber(pos + 4),
+        },
+        Framed::Whole(n) => {
+            let after = pos + n.0 * 4;
+            walk_read(reading::message::read(&words[pos..after]), after)
+        }
+    }
+}
+
+// WALKING A STREAM
+pub fn walk(words: &[u32], position: WordNumber) -> Walked
+    ensures { λ r. ⌜ r ≡ walkOf (now (words .entry)) (position .0) ⌝ }
+{
+    let pos = position.0;
+    if words.len() <= pos {
+        return Walked::End;
+    }
+    let ump_type = type_of(words[pos]) as u32;
+    if ump_type != 15 {
+        return walk_other(ump_type, words, pos);
+    }
+    walk_framed(words, pos)
+}
