@@ -1,0 +1,49 @@
+-- `next_byte` is a thin step over the core of crate `reading`: `Walk` at the types of crate `text`. All that is cited of the core is its contract.
+-- Assumes nothing.
+use contract.Running.{givenOf, tables, tablesOf}
+use denote.Struct.Laws as SL
+use denote.Triple.Spec.{tripleOf}
+use denote.Triple.Table.{entered, cited}
+use Rattle.text.proofs.TextPlace as P
+use Rattle.text.proofs.TextPlace.Laws as P′
+use Rattle.text.proofs.TextStep as E
+use Rattle.text.proofs.TextStep.Laws as E′
+use Rattle.text.proofs.Stepped as S
+use Rattle.text.proofs.Stepped.Laws as S′
+use Rattle.reading.proofs.by_byte.next_byte.Symbol as core-def
+use Rattle.reading.proofs.by_byte.next_byte.Symbol.{name as #core}
+use Rattle.reading.proofs.by_byte.next_byte.Met as core-thm
+use Rattle.standard.specs.Place.{nextByte}
+use Rattle.text_place.proofs.Data.{Data, structData, enumData, good}
+use Rattle.text_place.proofs.Thin.{Pair}
+use Rattle.text_place.proofs.Walk.{Core, thin-meets}
+use Rattle.text_place.proofs.next_byte as f
+use Rattle.text_place.proofs.next_byte.Key.{name as #next-byte}
+use Rattle.text_place.proofs.next_byte.Statement as stated
+use Rattle.text_place.proofs.next_byte.Code as code
+
+abbrev answer : Data E.the-row
+answer = enumData E.the-type E′.the-laws E′.the-plain tt E′.lowers
+
+abbrev place : Data P.the-row
+place = structData P.the-type P′.the-laws P′.the-plain P′.lowers
+
+abbrev both : Pair E.the-row P.the-row S.the-row answer place
+both = record {
+  answer = λ r. r .step;
+  place = λ r. r .place;
+  name = S.struct .name;
+  layout-is = S′.lowers .layout-is;
+  val-is = S′.lowers .val-is;
+  lawful = SL.lawful S.the-type S′.the-laws;
+  has-answer = λ r vs is. good answer (r .step) _ (SL.owed S.the-type S′.the-laws r vs is .0);
+  has-place = λ r vs is. good place (r .place) _ (SL.owed S.the-type S′.the-laws r vs is .1 .0);
+}
+
+pub next-byte-spec : {M : Type 1} → stated.statement M
+unfolding code.routine tablesOf
+next-byte-spec 𝓤 H 𝓜 𝓖 𝓡 =
+    entered 𝓤 H (tripleOf 𝓤 H (𝓖 .A) f.signature (f.spec 𝓤 H (𝓖 .A) (𝓜 .mem) (𝓡 .run)))
+    (tables 𝓤 H 𝓜 𝓡 code.env .C) (tables 𝓤 H 𝓜 𝓡 code.env .Λ) #next-byte code.function (code.unfolded 𝓤 H 𝓜 𝓡)
+    (thin-meets both nextByte 𝓤 H (𝓖 .A) (givenOf 𝓤 H 𝓜 𝓖) (tablesOf 𝓤 H 𝓜 (tables 𝓤 H 𝓜 𝓡 code.env)) #core
+    (cited 𝓤 H (Core 𝓤 H (𝓖 .A) P.the-row S.the-row nextByte) 𝓜 𝓡 code.env #core core-def.routine code.calls-reading·by-byte·next-byte (core-thm.met 𝓤 H 𝓜 𝓖 𝓡)))
