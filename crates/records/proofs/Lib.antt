@@ -1,1 +1,4 @@
 pub mod Records
+pub mod Settings
+pub mod Homes
+pub mod Others

@@ -2,15 +2,21 @@
 use Prim.Native.Nat.{ℕ}
 use mathlib.Core.Bool.{Bool, true, false, not}
 use mathlib.Core.List.{List, [], _∷_}
+use lib.Dec.{eqb}
 use Rattle.laws.specs.Pick.{pick}
 use Rattle.slots.specs.Slots.{Slot, fits}
+use Rattle.kinds.specs.declared.kind.Kind.{Kind}
+use Rattle.kinds.specs.declared.choices.UiHint.{UiHint}
+use Rattle.kinds.specs.declared.choices.Midi1Port.{Midi1Port}
+use Rattle.kinds.specs.declared.choices.Direction.{Direction}
 use Rattle.kinds.specs.declared.refusal.Refusal.{Refusal}
 use Rattle.kinds.specs.declared.refusal.Refusal.the-variants.{NumberTooLarge, NoSuchField}
+use Rattle.records.specs.declared.function_block_info.FunctionBlockInfo.{FunctionBlockInfo}
 use Rattle.records.specs.declared.message.Message.{Message}
 use Rattle.records.specs.declared.answers.Answer.{Answer}
 use Rattle.records.specs.declared.answers.Answer.the-variants as A
 use Rattle.records.specs.declared.answers.Edited.{Edited}
-use Rattle.kinds.specs.Fields.{Field, Setting, fieldIn, valueIn, same}
+use Rattle.kinds.specs.Fields.{Number, Text, Field, Setting, fieldIn, valueIn, same}
 use Rattle.kinds.specs.Layout.{Part, layout, none, slotsOf, parts}
 use Rattle.records.specs.Records.{kindIn, packetsIn, recordOf, valuesOf}
 
@@ -36,10 +42,41 @@ setRecord s m =
     (pick (tooLarge (layout (kindIn m) .fields) s) (edited m (A.Refused NumberTooLarge))
     (edited (recordOf (kindIn m) (packetsIn m) (with (fieldIn s) (valueIn s) (valuesOf m))) A.Done))
 
+-- ---- names that two kinds have
+-- the version: of status 0x00 the discovery's, else the endpoint info's, which every other kind lacks
+abbrev pub majorOf : Kind → Number
+majorOf k = pick (eqb (layout k .status) 0x00) Number.discovery-version-major Number.info-version-major
+
+abbrev pub minorOf : Kind → Number
+minorOf k = pick (eqb (layout k .status) 0x00) Number.discovery-version-minor Number.info-version-minor
+
+-- the name: of status 0x12 the function block's, else the endpoint's
+abbrev pub nameOf : Kind → Text
+nameOf k = pick (eqb (layout k .status) 0x12) Text.function-block-name Text.endpoint-name
+
+-- ---- a block with other choices
+abbrev pub chosenIn : FunctionBlockInfo → UiHint → Midi1Port → Direction → FunctionBlockInfo
+chosenIn b h p d =
+    record {
+      active = b .active;
+      «function_block_number» = b .«function_block_number»;
+      «ui_hint» = h;
+      «midi1_port» = p;
+      direction = d;
+      «first_group» = b .«first_group»;
+      «number_of_groups_spanned» = b .«number_of_groups_spanned»;
+      «midi_ci_version» = b .«midi_ci_version»;
+      «max_number_of_midi_ci_streams» = b .«max_number_of_midi_ci_streams»;
+    }
+
+-- ---- a chain
 -- a chain keeps its first refusal, and goes on with the record handed back
 abbrev pub firstRefusal : Answer → Answer → Answer
 firstRefusal A.Done b = b
 firstRefusal (A.Refused r) b = A.Refused r
 
-unfoldable pub setEdited : Setting → Edited → Edited
-setEdited s e = edited (setRecord s (e .message) .message) (firstRefusal (e .answer) (setRecord s (e .message) .answer))
+unfoldable pub followed : Edited → Edited → Edited
+followed a b = edited (b .message) (firstRefusal (a .answer) (b .answer))
+
+abbrev pub setEdited : Setting → Edited → Edited
+setEdited s e = followed e (setRecord s (e .message))

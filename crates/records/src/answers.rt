@@ -3,6 +3,8 @@ use crate::message::Message;
 use crate::packet::Packet;
 use counts::WordNumber;
 use kinds::refusal::Refusal;
+ghost use mathlib.Core.Path.{_≡_};
+ghost use Rattle.records.specs.Settings.{edited, followed};
 
 // Reading one message.
 pub enum Read {
@@ -50,4 +52,48 @@ pub enum Answer {
 pub struct Edited {
     pub message: Message,
     pub answer: Answer,
+}
+
+// A setting that is made.
+pub(crate) fn done(message: Message) -> Edited
+    ensures { λ r. ⌜ r ≡ edited message Answer.Done ⌝ }
+{
+    Edited {
+        message,
+        answer: Answer::Done,
+    }
+}
+
+// A setting that is refused hands the record back as it came.
+pub(crate) fn refused(message: Message, refusal: Refusal) -> Edited
+    ensures { λ r. ⌜ r ≡ edited message (Answer.Refused refusal) ⌝ }
+{
+    Edited {
+        message,
+        answer: Answer::Refused(refusal),
+    }
+}
+
+pub(crate) fn no_such_field(message: Message) -> Edited
+    ensures { λ r. ⌜ r ≡ edited message (Answer.Refused Refusal.NoSuchField) ⌝ }
+{
+    refused(message, Refusal::NoSuchField)
+}
+
+pub(crate) fn too_large(message: Message) -> Edited
+    ensures { λ r. ⌜ r ≡ edited message (Answer.Refused Refusal.NumberTooLarge) ⌝ }
+{
+    refused(message, Refusal::NumberTooLarge)
+}
+
+// A setting after another: the record of the second, and the first refusal.
+pub(crate) fn then(first: Edited, next: Edited) -> Edited
+    ensures { λ r. ⌜ r ≡ followed first next ⌝ }
+{
+    let answer = first.answer;
+    let Answer::Refused(refusal) = answer else {
+        return next;
+    };
+    let message = next.message;
+    refused(message, refusal)
 }

@@ -1,4 +1,12 @@
-// Status 0x00: a host asks what an endpoint is.
+// Status 0x00: a host asks what an endpoint is. The settings of its version stand in ump_version.rt.
+use crate::answers::Edited;
+use crate::answers::done;
+use crate::answers::no_such_field;
+use crate::answers::then;
+use crate::message::Message;
+ghost use mathlib.Core.Path.{_≡_};
+ghost use Rattle.kinds.specs.Fields.{Flag, Setting};
+ghost use Rattle.records.specs.Settings.{setRecord, setEdited};
 
 pub struct EndpointDiscovery {
     pub ump_version_major: u8,
@@ -8,4 +16,98 @@ pub struct EndpointDiscovery {
     pub request_endpoint_name: bool,
     pub request_product_instance_id: bool,
     pub request_stream_configuration: bool,
+}
+
+impl Message {
+    pub fn set_request_endpoint_info(mut self, on: bool) -> Edited
+        ensures { λ r. ⌜ r ≡ setRecord (Setting.flag Flag.request-endpoint-info on) self ⌝ }
+    {
+        let Message::EndpointDiscovery(mut discovery) = self else {
+            return no_such_field(self);
+        };
+        discovery.request_endpoint_info = on;
+        self = Message::EndpointDiscovery(discovery);
+        done(self)
+    }
+
+    pub fn set_request_device_identity(mut self, on: bool) -> Edited
+        ensures { λ r. ⌜ r ≡ setRecord (Setting.flag Flag.request-device-identity on) self ⌝ }
+    {
+        let Message::EndpointDiscovery(mut discovery) = self else {
+            return no_such_field(self);
+        };
+        discovery.request_device_identity = on;
+        self = Message::EndpointDiscovery(discovery);
+        done(self)
+    }
+
+    pub fn set_request_endpoint_name(mut self, on: bool) -> Edited
+        ensures { λ r. ⌜ r ≡ setRecord (Setting.flag Flag.request-endpoint-name on) self ⌝ }
+    {
+        let Message::EndpointDiscovery(mut discovery) = self else {
+            return no_such_field(self);
+        };
+        discovery.request_endpoint_name = on;
+        self = Message::EndpointDiscovery(discovery);
+        done(self)
+    }
+
+    pub fn set_request_product_instance_id(mut self, on: bool) -> Edited
+        ensures { λ r. ⌜ r ≡ setRecord (Setting.flag Flag.request-product-instance-id on) self ⌝ }
+    {
+        let Message::EndpointDiscovery(mut discovery) = self else {
+            return no_such_field(self);
+        };
+        discovery.request_product_instance_id = on;
+        self = Message::EndpointDiscovery(discovery);
+        done(self)
+    }
+
+    pub fn set_request_stream_configuration(mut self, on: bool) -> Edited
+        ensures { λ r. ⌜ r ≡ setRecord (Setting.flag Flag.request-stream-configuration on) self ⌝ }
+    {
+        let Message::EndpointDiscovery(mut discovery) = self else {
+            return no_such_field(self);
+        };
+        discovery.request_stream_configuration = on;
+        self = Message::EndpointDiscovery(discovery);
+        done(self)
+    }
+}
+
+impl Edited {
+    pub fn set_request_endpoint_info(self, on: bool) -> Edited
+        ensures { λ r. ⌜ r ≡ setEdited (Setting.flag Flag.request-endpoint-info on) self ⌝ }
+    {
+        let m = self.message;
+        then(self, m.set_request_endpoint_info(on))
+    }
+
+    pub fn set_request_device_identity(self, on: bool) -> Edited
+        ensures { λ r. ⌜ r ≡ setEdited (Setting.flag Flag.request-device-identity on) self ⌝ }
+    {
+        let m = self.message;
+        then(self, m.set_request_device_identity(on))
+    }
+
+    pub fn set_request_endpoint_name(self, on: bool) -> Edited
+        ensures { λ r. ⌜ r ≡ setEdited (Setting.flag Flag.request-endpoint-name on) self ⌝ }
+    {
+        let m = self.message;
+        then(self, m.set_request_endpoint_name(on))
+    }
+
+    pub fn set_request_product_instance_id(self, on: bool) -> Edited
+        ensures { λ r. ⌜ r ≡ setEdited (Setting.flag Flag.request-product-instance-id on) self ⌝ }
+    {
+        let m = self.message;
+        then(self, m.set_request_product_instance_id(on))
+    }
+
+    pub fn set_request_stream_configuration(self, on: bool) -> Edited
+        ensures { λ r. ⌜ r ≡ setEdited (Setting.flag Flag.request-stream-configuration on) self ⌝ }
+    {
+        let m = self.message;
+        then(self, m.set_request_stream_configuration(on))
+    }
 }

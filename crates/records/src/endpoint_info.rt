@@ -1,4 +1,13 @@
-// Status 0x01: what an endpoint can do.
+// Status 0x01: what an endpoint can do. The settings of its version stand in ump_version.rt.
+use crate::answers::Edited;
+use crate::answers::done;
+use crate::answers::no_such_field;
+use crate::answers::then;
+use crate::answers::too_large;
+use crate::message::Message;
+ghost use mathlib.Core.Path.{_≡_};
+ghost use Rattle.kinds.specs.Fields.{Flag, Number, Setting};
+ghost use Rattle.records.specs.Settings.{setRecord, setEdited};
 
 pub struct EndpointInfo {
     pub ump_version_major: u8,
@@ -9,4 +18,119 @@ pub struct EndpointInfo {
     pub supports_receiving_jr_timestamps: bool,
     pub supports_sending_jr_timestamps: bool,
     pub number_of_function_blocks: u8,
+}
+
+impl Message {
+    pub fn set_static_function_blocks(mut self, on: bool) -> Edited
+        ensures { λ r. ⌜ r ≡ setRecord (Setting.flag Flag.static-function-blocks on) self ⌝ }
+    {
+        let Message::EndpointInfo(mut info) = self else {
+            return no_such_field(self);
+        };
+        info.static_function_blocks = on;
+        self = Message::EndpointInfo(info);
+        done(self)
+    }
+
+    pub fn set_supports_midi2_protocol(mut self, on: bool) -> Edited
+        ensures { λ r. ⌜ r ≡ setRecord (Setting.flag Flag.supports-midi2-protocol on) self ⌝ }
+    {
+        let Message::EndpointInfo(mut info) = self else {
+            return no_such_field(self);
+        };
+        info.supports_midi2_protocol = on;
+        self = Message::EndpointInfo(info);
+        done(self)
+    }
+
+    pub fn set_supports_midi1_protocol(mut self, on: bool) -> Edited
+        ensures { λ r. ⌜ r ≡ setRecord (Setting.flag Flag.supports-midi1-protocol on) self ⌝ }
+    {
+        let Message::EndpointInfo(mut info) = self else {
+            return no_such_field(self);
+        };
+        info.supports_midi1_protocol = on;
+        self = Message::EndpointInfo(info);
+        done(self)
+    }
+
+    pub fn set_supports_receiving_jr_timestamps(mut self, on: bool) -> Edited
+        ensures { λ r. ⌜ r ≡ setRecord (Setting.flag Flag.supports-receiving-jr-timestamps on) self ⌝ }
+    {
+        let Message::EndpointInfo(mut info) = self else {
+            return no_such_field(self);
+        };
+        info.supports_receiving_jr_timestamps = on;
+        self = Message::EndpointInfo(info);
+        done(self)
+    }
+
+    pub fn set_supports_sending_jr_timestamps(mut self, on: bool) -> Edited
+        ensures { λ r. ⌜ r ≡ setRecord (Setting.flag Flag.supports-sending-jr-timestamps on) self ⌝ }
+    {
+        let Message::EndpointInfo(mut info) = self else {
+            return no_such_field(self);
+        };
+        info.supports_sending_jr_timestamps = on;
+        self = Message::EndpointInfo(info);
+        done(self)
+    }
+
+    pub fn set_number_of_function_blocks(mut self, number: u32) -> Edited
+        ensures { λ r. ⌜ r ≡ setRecord (Setting.number Number.number-of-function-blocks number) self ⌝ }
+    {
+        let Message::EndpointInfo(mut info) = self else {
+            return no_such_field(self);
+        };
+        if number > 127 {
+            return too_large(self);
+        }
+        info.number_of_function_blocks = number as u8;
+        self = Message::EndpointInfo(info);
+        done(self)
+    }
+}
+
+impl Edited {
+    pub fn set_static_function_blocks(self, on: bool) -> Edited
+        ensures { λ r. ⌜ r ≡ setEdited (Setting.flag Flag.static-function-blocks on) self ⌝ }
+    {
+        let m = self.message;
+        then(self, m.set_static_function_blocks(on))
+    }
+
+    pub fn set_supports_midi2_protocol(self, on: bool) -> Edited
+        ensures { λ r. ⌜ r ≡ setEdited (Setting.flag Flag.supports-midi2-protocol on) self ⌝ }
+    {
+        let m = self.message;
+        then(self, m.set_supports_midi2_protocol(on))
+    }
+
+    pub fn set_supports_midi1_protocol(self, on: bool) -> Edited
+        ensures { λ r. ⌜ r ≡ setEdited (Setting.flag Flag.supports-midi1-protocol on) self ⌝ }
+    {
+        let m = self.message;
+        then(self, m.set_supports_midi1_protocol(on))
+    }
+
+    pub fn set_supports_receiving_jr_timestamps(self, on: bool) -> Edited
+        ensures { λ r. ⌜ r ≡ setEdited (Setting.flag Flag.supports-receiving-jr-timestamps on) self ⌝ }
+    {
+        let m = self.message;
+        then(self, m.set_supports_receiving_jr_timestamps(on))
+    }
+
+    pub fn set_supports_sending_jr_timestamps(self, on: bool) -> Edited
+        ensures { λ r. ⌜ r ≡ setEdited (Setting.flag Flag.supports-sending-jr-timestamps on) self ⌝ }
+    {
+        let m = self.message;
+        then(self, m.set_supports_sending_jr_timestamps(on))
+    }
+
+    pub fn set_number_of_function_blocks(self, number: u32) -> Edited
+        ensures { λ r. ⌜ r ≡ setEdited (Setting.number Number.number-of-function-blocks number) self ⌝ }
+    {
+        let m = self.message;
+        then(self, m.set_number_of_function_blocks(number))
+    }
 }

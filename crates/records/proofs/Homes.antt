@@ -1,0 +1,68 @@
+-- A field is of one kind: every other kind lacks it. Closed by computing the table once, row by row.
+use Prim.Native.Nat.{ℕ}
+use mathlib.Core.Path.{_≡_, refl, sym, ap, _∙_}
+use mathlib.Core.Bool.{Bool, true, false}
+use mathlib.Core.List.{List, [], _∷_}
+use lib.Dec.{eqb}
+use borrow.Author.Tests.{eqb-true}
+use Rattle.laws.specs.Pick.{pick, both}
+use Rattle.laws.proofs.Pick.{true-false, both-left, both-right, split}
+use Rattle.slots.specs.Slots.{Slot, those}
+use Rattle.kinds.specs.declared.kind.Kind.{Kind}
+use Rattle.kinds.specs.declared.kind.Kind.the-variants as K
+use Rattle.kinds.specs.declared.kind.Known.{Known}
+use Rattle.kinds.specs.declared.kind.Known.the-variants.{Is}
+use Rattle.kinds.specs.Fields.{Field, same, decided, Field-discrete, Flag-discrete, Number-discrete, Pair-discrete, Text-discrete}
+use Rattle.kinds.specs.Layout.{Part, layout, kinds, kindOf, none, slotsOf}
+use Rattle.kinds.proofs.Rows.{status-kind}
+
+-- the status of the first of some kinds that has a field
+home : List Kind → Field → ℕ
+home [] f = 0
+home (k ∷ ks) f = pick (none (slotsOf f (layout k .fields))) (home ks f) (layout k .status)
+
+-- each field of a table has this home
+homely : ℕ → List (Slot Part) → Bool
+homely n [] = true
+homely n (s ∷ ss) = both (eqb (home kinds (s .key .field)) n) (homely n ss)
+
+rows-homely : (k : Kind) → homely (layout k .status) (layout k .fields) ≡ true
+unfolding homely home layout those same decided both
+rows-homely K.EndpointDiscovery = refl
+rows-homely K.EndpointInfo = refl
+rows-homely K.DeviceIdentity = refl
+rows-homely K.EndpointName = refl
+rows-homely K.ProductInstanceId = refl
+rows-homely K.FunctionBlockInfo = refl
+rows-homely K.FunctionBlockName = refl
+
+holds : {A : Type 0} (d : Dec A) → decided d ≡ true → A
+unfolding decided
+holds (yes a) e = a
+holds (no n) e = true-false (sym e)
+
+-- a test of two fields that holds
+pub one-field : (f g : Field) → same f g ≡ true → f ≡ g
+unfolding same
+one-field f g e = holds (Field-discrete Flag-discrete Number-discrete Pair-discrete Text-discrete f g) e
+
+home-is : (f : Field) (n : ℕ) (t : List (Slot Part)) → homely n t ≡ true → none (slotsOf f t) ≡ false → home kinds f ≡ n
+unfolding homely those
+home-is f n [] h e = true-false e
+home-is f n (s ∷ ss) h e = go (same (s .key .field) f) refl e (home-is f n ss (both-right _ _ h))
+  where
+    go : (b : Bool) → same (s .key .field) f ≡ b → none (pick b (s ∷ slotsOf f ss) (slotsOf f ss)) ≡ false → (none (slotsOf f ss) ≡ false → home kinds f ≡ n) → home kinds f ≡ n
+    go true q e′ ih = ap (home kinds) (sym (one-field _ _ q)) ∙ eqb-true _ _ (both-left _ _ h)
+    go false q e′ ih = ih e′
+
+-- a status is of one kind
+pub one-status : (j k : Kind) → layout j .status ≡ layout k .status → j ≡ k
+one-status j k e = let q : Is j ≡ Is k = sym (status-kind j) ∙ ap kindOf e ∙ status-kind k in cc
+
+-- two kinds that have a field are one
+pub one-kind : (j k : Kind) (f : Field) → none (slotsOf f (layout j .fields)) ≡ false → none (slotsOf f (layout k .fields)) ≡ false → j ≡ k
+one-kind j k f a b = one-status j k (sym (home-is f _ _ (rows-homely j) a) ∙ home-is f _ _ (rows-homely k) b)
+
+-- so every other kind lacks it
+pub elsewhere : (k j : Kind) (f : Field) → none (slotsOf f (layout k .fields)) ≡ false → (j ≡ k → ⊥) → none (slotsOf f (layout j .fields)) ≡ true
+elsewhere k j f h n = split (none (slotsOf f (layout j .fields))) (λ e. e) (λ e. absurd (n (one-kind j k f e h)))

@@ -1,0 +1,18 @@
+-- Setting `supports_receiving_jr_timestamps` on what a setting handed back.
+use borrow.Author.Needs.{needs}
+use Rattle.records.proofs.answers.Edited.set_supports_receiving_jr_timestamps.Statement.{statement}
+use Rattle.records.proofs.answers.Edited.set_supports_receiving_jr_timestamps.Tie as tie
+
+set-supports-receiving-jr-timestamps-requires :
+    tie.Need-set-supports-receiving-jr-timestamps-requires
+set-supports-receiving-jr-timestamps-requires c κs = search needs
+
+then-requires : tie.Need-then-requires
+then-requires c κs = search needs
+
+returns : tie.Need-returns
+returns c = rw (c .then .ensures, c .before .set-supports-receiving-jr-timestamps .ensures)
+
+pub set-supports-receiving-jr-timestamps-spec : {M : Type 1} → statement M
+set-supports-receiving-jr-timestamps-spec =
+    tie.close (tie.spec set-supports-receiving-jr-timestamps-requires then-requires returns)

@@ -1,0 +1,41 @@
+// Status 0x12: the name of a function block. Its record is in the message itself: the block's number and the packets.
+use crate::answers::Edited;
+use crate::answers::done;
+use crate::answers::no_such_field;
+use crate::answers::then;
+use crate::answers::too_large;
+use crate::message::Message;
+ghost use mathlib.Core.Path.{_≡_};
+ghost use Rattle.kinds.specs.Fields.{Number, Setting};
+ghost use Rattle.records.specs.Settings.{setRecord, setEdited};
+
+impl Message {
+    pub fn set_function_block(mut self, number: u32) -> Edited
+        ensures { λ r. ⌜ r ≡ setRecord (Setting.number Number.function-block number) self ⌝ }
+    {
+        let Message::FunctionBlockName {
+            function_block: _,
+            packets,
+        } = self
+        else {
+            return no_such_field(self);
+        };
+        if number > 255 {
+            return too_large(self);
+        }
+        self = Message::FunctionBlockName {
+            function_block: number as u8,
+            packets,
+        };
+        done(self)
+    }
+}
+
+impl Edited {
+    pub fn set_function_block(self, number: u32) -> Edited
+        ensures { λ r. ⌜ r ≡ setEdited (Setting.number Number.function-block number) self ⌝ }
+    {
+        let m = self.message;
+        then(self, m.set_function_block(number))
+    }
+}

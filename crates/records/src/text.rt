@@ -1,0 +1,39 @@
+// The settings of text on a record, which has none: each is refused.
+use crate::answers::Edited;
+use crate::answers::no_such_field;
+use crate::answers::then;
+use crate::message::Message;
+ghost use mathlib.Core.Path.{_≡_};
+ghost use Rattle.kinds.specs.Fields.{Setting, Text};
+ghost use Rattle.records.specs.Records.{kindIn};
+ghost use Rattle.records.specs.Settings.{nameOf, setRecord, setEdited};
+
+impl Message {
+    pub fn set_name(mut self, text: &[u8]) -> Edited
+        ensures { λ r. ⌜ r ≡ setRecord (Setting.text (nameOf (kindIn self)) (now (text .entry))) self ⌝ }
+    {
+        no_such_field(self)
+    }
+
+    pub fn set_id(mut self, text: &[u8]) -> Edited
+        ensures { λ r. ⌜ r ≡ setRecord (Setting.text Text.product-instance-id (now (text .entry))) self ⌝ }
+    {
+        no_such_field(self)
+    }
+}
+
+impl Edited {
+    pub fn set_name(self, text: &[u8]) -> Edited
+        ensures { λ r. ⌜ r ≡ setEdited (Setting.text (nameOf (kindIn (self .message))) (now (text .entry))) self ⌝ }
+    {
+        let m = self.message;
+        then(self, m.set_name(text))
+    }
+
+    pub fn set_id(self, text: &[u8]) -> Edited
+        ensures { λ r. ⌜ r ≡ setEdited (Setting.text Text.product-instance-id (now (text .entry))) self ⌝ }
+    {
+        let m = self.message;
+        then(self, m.set_id(text))
+    }
+}

@@ -1,0 +1,75 @@
+// The version of UMP: two numbers that a discovery and an endpoint info both have.
+use crate::answers::Edited;
+use crate::answers::done;
+use crate::answers::no_such_field;
+use crate::answers::then;
+use crate::answers::too_large;
+use crate::message::Message;
+ghost use mathlib.Core.Path.{_≡_};
+ghost use Rattle.kinds.specs.Fields.{Setting};
+ghost use Rattle.records.specs.Records.{kindIn};
+ghost use Rattle.records.specs.Settings.{majorOf, minorOf, setRecord, setEdited};
+
+impl Message {
+    pub fn set_ump_version_major(mut self, number: u32) -> Edited
+        ensures { λ r. ⌜ r ≡ setRecord (Setting.number (majorOf (kindIn self)) number) self ⌝ }
+    {
+        match self {
+            Message::EndpointDiscovery(mut discovery) => {
+                if number > 255 {
+                    return too_large(self);
+                }
+                discovery.ump_version_major = number as u8;
+                self = Message::EndpointDiscovery(discovery);
+            }
+            Message::EndpointInfo(mut info) => {
+                if number > 255 {
+                    return too_large(self);
+                }
+                info.ump_version_major = number as u8;
+                self = Message::EndpointInfo(info);
+            }
+            _ => return no_such_field(self),
+        }
+        done(self)
+    }
+
+    pub fn set_ump_version_minor(mut self, number: u32) -> Edited
+        ensures { λ r. ⌜ r ≡ setRecord (Setting.number (minorOf (kindIn self)) number) self ⌝ }
+    {
+        match self {
+            Message::EndpointDiscovery(mut discovery) => {
+                if number > 255 {
+                    return too_large(self);
+                }
+                discovery.ump_version_minor = number as u8;
+                self = Message::EndpointDiscovery(discovery);
+            }
+            Message::EndpointInfo(mut info) => {
+                if number > 255 {
+                    return too_large(self);
+                }
+                info.ump_version_minor = number as u8;
+                self = Message::EndpointInfo(info);
+            }
+            _ => return no_such_field(self),
+        }
+        done(self)
+    }
+}
+
+impl Edited {
+    pub fn set_ump_version_major(self, number: u32) -> Edited
+        ensures { λ r. ⌜ r ≡ setEdited (Setting.number (majorOf (kindIn (self .message))) number) self ⌝ }
+    {
+        let m = self.message;
+        then(self, m.set_ump_version_major(number))
+    }
+
+    pub fn set_ump_version_minor(self, number: u32) -> Edited
+        ensures { λ r. ⌜ r ≡ setEdited (Setting.number (minorOf (kindIn (self .message))) number) self ⌝ }
+    {
+        let m = self.message;
+        then(self, m.set_ump_version_minor(number))
+    }
+}
