@@ -23,9 +23,12 @@ decimal n = decimalIn n n
 abbrev pub hexByte : ℕ → List ℕ
 hexByte b = digit (b / 16) ∷ digit (b % 16) ∷ []
 
--- each number in decimal, with a space before it
+-- a number in decimal, with a space before it, and each of a list so
+abbrev pub number : ℕ → List ℕ
+number n = ascii " " ++ decimal n
+
 abbrev pub numbers : List ℕ → List ℕ
-numbers ns = each (λ n. ascii " " ++ decimal n) ns
+numbers ns = each number ns
 
 -- bytes in hex, or `-` where there are none
 unfoldable pub shown : List ℕ → List ℕ

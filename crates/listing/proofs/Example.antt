@@ -14,10 +14,11 @@ use Rattle.kinds.specs.Layout.{layout, among, held, valuesIn}
 use Rattle.records.specs.Records.{recordOf, fieldsIn, lookup, firstPart}
 use Rattle.standard.specs.Reading.{ruled, otherField, readBody, readKind, readOf}
 use Rattle.standard.specs.Walk.{sizeOf, stepOf, framePacket, frameFrom, frameOf, framedOf, otherOf, walkOf}
+use Rattle.walking.specs.Visits.{visits}
 use Rattle.lines.specs.Ascii.{ascii}
 use Rattle.lines.specs.Numbers.{decimalIn, decimal, shown}
 use Rattle.listing.specs.Lines.{nameOf}
-use Rattle.listing.specs.Listing.{wordsOf, linesIn, listingOf}
+use Rattle.listing.specs.Listing.{wordsOf, listingOf}
 
 -- a word's four bytes
 abbrev octets : ℕ → List ℕ
@@ -35,5 +36,5 @@ lines =
     ++ ascii "end 13 0\n"
 
 pub example : listingOf bytes ≡ lines
-unfolding both first firstFrom tabulate nonzero map each get those after firstBad octetOf due textByte allBytes decided same start joined layout among held valuesIn recordOf fieldsIn lookup firstPart ruled otherField readBody readKind readOf sizeOf stepOf framePacket frameFrom frameOf framedOf otherOf walkOf decimalIn decimal shown nameOf wordsOf linesIn listingOf
+unfolding both first firstFrom tabulate nonzero map each get those after firstBad octetOf due textByte allBytes decided same start joined layout among held valuesIn recordOf fieldsIn lookup firstPart ruled otherField readBody readKind readOf sizeOf stepOf framePacket frameFrom frameOf framedOf otherOf walkOf decimalIn decimal shown nameOf visits wordsOf listingOf
 example = refl

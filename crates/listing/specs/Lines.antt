@@ -1,9 +1,11 @@
 -- The line of each answer of the walk. A line starts with the word position; single spaces; every line ends in a newline.
-use Prim.Native.Nat.{ℕ, _/_}
+use Prim.Native.Nat.{ℕ}
 use mathlib.Core.List.{List, [], _∷_, _++_}
+use Rattle.counts.specs.declared.WordNumber.{WordNumber}
 use Rattle.text.specs.Bytes.{textOf}
 use Rattle.kinds.specs.declared.kind.Kind.{Kind}
 use Rattle.kinds.specs.declared.kind.Kind.the-variants as K
+use Rattle.kinds.specs.declared.refusal.Refusal.{Refusal}
 use Rattle.records.specs.declared.message.Message.{Message}
 use Rattle.records.specs.declared.answers.Walked.{Walked}
 use Rattle.records.specs.declared.answers.Walked.the-variants as W
@@ -33,12 +35,19 @@ abbrev pub messageShown : Message → List ℕ → List ℕ
 messageShown m ws =
     ascii " " ++ nameOf (kindIn m) ++ numbers (packetsIn m ∷ numbersIn m) ++ textShown (layout (kindIn m) .body) (packetsIn m) ws
 
--- another type: its type and size; a refusal: its number and place
+-- another type: its type and size
+abbrev pub otherShown : ℕ → WordNumber → List ℕ
+otherShown t size = ascii " other" ++ numbers (t ∷ size .0 ∷ [])
+
+-- a refusal: its number and place
+abbrev pub refusalShown : Refusal → List ℕ
+refusalShown r = ascii " refused" ++ numbers (numberOf r ∷ placeOf r ∷ [])
+
 abbrev pub answerShown : Walked → List ℕ → ℕ → List ℕ
 answerShown W.End ws pos = []
-answerShown (W.Other t size next) ws pos = ascii " other" ++ numbers (t ∷ size .0 ∷ [])
+answerShown (W.Other t size next) ws pos = otherShown t size
 answerShown (W.Message m next) ws pos = messageShown m (part ws pos (packetsIn m))
-answerShown (W.Refused r next) ws pos = ascii " refused" ++ numbers (numberOf r ∷ placeOf r ∷ [])
+answerShown (W.Refused r next) ws pos = refusalShown r
 
 abbrev pub lineOf : Walked → List ℕ → ℕ → List ℕ
 lineOf a ws pos = decimal pos ++ answerShown a ws pos ++ ascii "\n"

@@ -1,14 +1,12 @@
 -- THE LISTING of a slice of bytes.
-use Prim.Native.Nat.{ℕ, zero, suc, _+_, _*_, _/_, _%_}
-use mathlib.Core.List.{List, [], _∷_, _++_}
+use Prim.Native.Nat.{ℕ, _+_, _*_, _/_, _%_}
+use mathlib.Core.List.{List, _++_}
 use lib.ListN.{length, getD}
 use lib.Dec.{ltb}
 use Rattle.laws.specs.Pick.{pick}
-use Rattle.laws.specs.Lists.{tabulate}
+use Rattle.laws.specs.Lists.{tabulate, each}
 use Rattle.laws.specs.Bits.{wordOf}
-use Rattle.records.specs.declared.answers.Walked.{Walked}
-use Rattle.records.specs.declared.answers.Walked.the-variants as W
-use Rattle.standard.specs.Walk.{walkOf}
+use Rattle.walking.specs.Visits.{Visit, visits, visitsOf}
 use Rattle.listing.specs.Lines.{lineOf, endLine, tooLong}
 
 -- the whole words of the bytes, big-endian
@@ -18,22 +16,16 @@ wordAt bytes k = wordOf (getD bytes (k * 4) 0) (getD bytes (k * 4 + 1) 0) (getD 
 unfoldable pub wordsOf : List ℕ → List ℕ
 wordsOf bytes = tabulate (length bytes / 4) (wordAt bytes)
 
--- the position after an answer
-abbrev pub nextOf : Walked → ℕ → ℕ
-nextOf W.End pos = pos
-nextOf (W.Other t size next) pos = next .0
-nextOf (W.Message m next) pos = next .0
-nextOf (W.Refused r next) pos = next .0
+-- the line of a visit of the walk, and those of some visits
+abbrev pub visitLine : List ℕ → Visit → List ℕ
+visitLine ws v = lineOf (v .answer) ws (v .position)
 
--- the lines from a position on, at most `most` of them
-unfoldable pub linesIn : ℕ → List ℕ → ℕ → List ℕ
-linesIn zero ws pos = []
-linesIn (suc most) ws pos =
-    pick (ltb pos (length ws)) (lineOf (walkOf ws pos) ws pos ++ linesIn most ws (nextOf (walkOf ws pos) pos)) []
+abbrev pub visitLines : List ℕ → List Visit → List ℕ
+visitLines ws vs = each (visitLine ws) vs
 
--- all lines: each takes at least one word
+-- the lines of the whole walk, which passes each word once
 abbrev pub linesOf : List ℕ → List ℕ
-linesOf ws = linesIn (length ws) ws 0
+linesOf ws = visitLines ws (visitsOf ws)
 
 -- above 32,768 bytes only that the input is too long
 unfoldable pub listingOf : List ℕ → List ℕ

@@ -1,1 +1,25 @@
 // The listing: big-endian words, the walk over them, and a line for each of its answers.
+ghost use Rattle.listing.specs.Listed.{Listed};
+
+mod answers;
+mod codes;
+mod messages;
+mod shown;
+mod words;
+
+use answers::put_end;
+use answers::put_lines;
+use words::read_words;
+
+// THE LISTING of a slice of bytes, put into a lent buffer, and how many bytes it took. A buffer of 139,275 bytes holds any.
+pub fn list(bytes: &[u8], out: &mut [u8]) -> usize
+    ensures { λ r. ⌜ Listed (now (bytes .entry)) (now (out .entry)) r (now (out .exit)) ⌝ }
+{
+    if 32768 < bytes.len() {
+        return lines::put_text(out, 0, b"input too long\n");
+    }
+    let mut words = [0u32; 8192];
+    let n = read_words(bytes, &mut words);
+    let p = put_lines(out, 0, &words[..n]);
+    put_end(out, p, n, bytes.len() % 4)
+}

@@ -1,0 +1,225 @@
+-- A line takes at most 17 bytes for each word that it passes, so 139,275 bytes hold any listing. Closed by counting digits at each answer of the walk.
+use Prim.Native.Nat.{ℕ, zero, suc, _+_, _-_, _*_, _/_, _%_, _≤_, _<_, min}
+use mathlib.Core.Path.{_≡_, refl, sym, ap, _∙_}
+use mathlib.Core.Bool.{Bool, true, false}
+use mathlib.Core.Logic.{⊎-elim}
+use mathlib.Core.List.{List, [], _∷_, _++_}
+use native.Mathlib.Omega.{arith}
+use lib.Dec.{ltb, leb, lit≤}
+use lib.ListN.{length, getD, take, length-append}
+use lib.Seq.{length-take-le}
+use borrow.Author.Tests.{lt-ltb, le-ltb, lt-leb, ltb-true, ltb-false}
+use Rattle.laws.specs.Pick.{pick, differ}
+use Rattle.laws.specs.Lists.{tabulate, each, upTo}
+use Rattle.laws.proofs.Pick.{split, below, here, past}
+use Rattle.laws.proofs.Lists.{length-tabulate}
+use Rattle.counts.specs.Counts.{word}
+use Rattle.counts.specs.declared.WordNumber.{WordNumber}
+use Rattle.kinds.specs.declared.refusal.Refusal.{Refusal}
+use Rattle.kinds.specs.declared.refusal.Refusal.the-variants.{TooFewWords, NotWholePackets, TooManyPackets, WrongType, UnknownStatus, StatusDiffers, WrongFormat, BlockNumberDiffers, BadPort, BadDirection, NotUtf8, NumberTooLarge, NoSuchField, NoRoom}
+use Rattle.kinds.specs.Refusals.{numberOf, placeOf}
+use Rattle.records.specs.declared.message.Message.{Message}
+use Rattle.records.specs.declared.answers.Read.{Read}
+use Rattle.records.specs.declared.answers.Read.the-variants as R
+use Rattle.records.specs.declared.answers.Walked.{Walked}
+use Rattle.records.specs.declared.answers.Walked.the-variants as W
+use Rattle.records.specs.Records.{packetsIn}
+use Rattle.standard.specs.declared.Framed.{Framed}
+use Rattle.standard.specs.declared.Framed.the-variants.{Whole, Short, Broken}
+use Rattle.standard.specs.Heads.{typeOf, streamType}
+use Rattle.standard.specs.Reading.{readOf}
+use Rattle.standard.specs.Walk.{sizeOf, part, walkedOf, frameOf, framedOf, otherOf, walkOf, Onward}
+use Rattle.walking.specs.Visits.{nextOf, visits}
+use Rattle.walking.proofs.Next.{Room, frame-room, walk-onward}
+use Rattle.walking.proofs.Stands.{walk-formed}
+use Rattle.lines.specs.Ascii.{ascii}
+use Rattle.lines.specs.Page.{Wrote}
+use Rattle.lines.specs.Numbers.{decimal}
+use Rattle.lines.proofs.Room.{decimal-length, within, first}
+use Rattle.listing.specs.Lines.{messageShown, refusalShown, lineOf, endLine, tooLong}
+use Rattle.listing.specs.Listing.{wordAt, wordsOf, visitLines, linesOf, listingOf}
+use Rattle.listing.specs.Listed.{Listed, roomy}
+use Rattle.listing.proofs.Lines.{next-between}
+use Rattle.listing.proofs.Near.{Near, read-near, Close, frame-close}
+use Rattle.listing.proofs.Lengths.{message-length}
+
+-- ---- the parts of a line
+number-length : (r : Refusal) → length (decimal (numberOf r)) ≤ 2
+number-length TooFewWords = decimal-length 1 1 (lit≤ tt)
+number-length NotWholePackets = decimal-length 1 2 (lit≤ tt)
+number-length TooManyPackets = decimal-length 1 3 (lit≤ tt)
+number-length (WrongType p) = decimal-length 1 4 (lit≤ tt)
+number-length UnknownStatus = decimal-length 1 5 (lit≤ tt)
+number-length (StatusDiffers p) = decimal-length 1 6 (lit≤ tt)
+number-length (WrongFormat p) = decimal-length 1 7 (lit≤ tt)
+number-length (BlockNumberDiffers p) = decimal-length 1 8 (lit≤ tt)
+number-length BadPort = decimal-length 1 9 (lit≤ tt)
+number-length BadDirection = decimal-length 1 10 (lit≤ tt)
+number-length NotUtf8 = decimal-length 1 11 (lit≤ tt)
+number-length NumberTooLarge = decimal-length 1 12 (lit≤ tt)
+number-length NoSuchField = decimal-length 1 13 (lit≤ tt)
+number-length NoRoom = decimal-length 1 14 (lit≤ tt)
+
+refusal-length : (r : Refusal) → placeOf r ≤ 64 → length (refusalShown r) ≤ 14
+unfolding each
+refusal-length r h = simp length-append (omega (arith, number-length r, decimal-length 1 (placeOf r) (omega arith)))
+
+-- refusal 1, which may come at the last word
+short-length : length (refusalShown TooFewWords) ≤ 12
+unfolding each
+short-length = simp length-append (omega (arith, decimal-length 0 1 (lit≤ tt), decimal-length 0 0 (lit≤ tt)))
+
+-- a size has one digit
+one-of : (t b x y : ℕ) → length (decimal x) ≤ 1 → length (decimal y) ≤ 1 → length (decimal (pick (ltb t b) x y)) ≤ 1
+one-of t b x y h g = ⊎-elim (λ l. rw (lt-ltb t b l) h) (λ l. rw (le-ltb t b l) g) (below t b)
+
+size-length : (t : ℕ) → length (decimal (sizeOf t)) ≤ 1
+unfolding sizeOf
+size-length t =
+    let d1 = decimal-length 0 1 (lit≤ tt) in
+    let d2 = decimal-length 0 2 (lit≤ tt) in
+    let d4 = decimal-length 0 4 (lit≤ tt) in
+    one-of t 3 1 _ d1 (one-of t 5 2 _ d2 (one-of t 6 4 _ d4 (one-of t 8 1 _ d1 (one-of t 11 2 _ d2 (one-of t 13 3 4 (decimal-length 0 3 (lit≤ tt)) d4)))))
+
+some-of : (t b x y : ℕ) → 1 ≤ x → 1 ≤ y → 1 ≤ pick (ltb t b) x y
+some-of t b x y h g = ⊎-elim (λ l. rw (lt-ltb t b l) h) (λ l. rw (le-ltb t b l) g) (below t b)
+
+size-some : (t : ℕ) → 1 ≤ sizeOf t
+unfolding sizeOf
+size-some t =
+    let s : 1 ≤ 2 = lit≤ tt in
+    let f : 1 ≤ 4 = lit≤ tt in
+    some-of t 3 1 _ (lit≤ tt) (some-of t 5 2 _ s (some-of t 6 4 _ f (some-of t 8 1 _ (lit≤ tt) (some-of t 11 2 _ s (some-of t 13 3 4 (lit≤ tt) f)))))
+
+-- ---- a line at a position of at most four digits
+line-length : (d said : List ℕ) (k : ℕ) → length d ≤ 4 → length said + 5 ≤ k → length (d ++ said ++ ascii "\n") ≤ k
+line-length d said k h l = simp length-append (omega arith)
+
+abbrev Fits : List ℕ → ℕ → Walked → Type 0
+Fits ws pos a = length (lineOf a ws pos) ≤ 17 * (nextOf a pos - pos)
+
+-- the same of all answers but a message
+abbrev Plain : List ℕ → ℕ → Walked → Type 0
+Plain ws pos W.End = Unit
+Plain ws pos (W.Other t size next) = Fits ws pos (W.Other t size next)
+Plain ws pos (W.Message m next) = Unit
+Plain ws pos (W.Refused r next) = Fits ws pos (W.Refused r next)
+
+module _ (ws : List ℕ) (pos : ℕ) (few : length ws ≤ 8192) (inside : pos < length ws) where
+  pos-length : length (decimal pos) ≤ 4
+  pos-length = decimal-length 3 pos (omega arith)
+
+  short-fits : Fits ws pos (W.Refused TooFewWords (word (length ws)))
+  short-fits = simp length-append (omega (arith, pos-length, short-length))
+
+  refused-fits : (r : Refusal) (n : ℕ) → placeOf r ≤ 64 → pos + 4 ≤ n → Fits ws pos (W.Refused r (word n))
+  refused-fits r n h l = simp length-append (omega (arith, pos-length, refusal-length r h))
+
+  other-fits : (t : ℕ) (n : ℕ) → t < 16 → pos < n → Fits ws pos (W.Other t (word (sizeOf t)) (word n))
+  unfolding each
+  other-fits t n h l = simp length-append (omega (arith, pos-length, decimal-length 1 t (omega arith), size-length t))
+
+  -- ---- by the walk's cases
+  other-plain : (t : ℕ) → t < 16 → Plain ws pos (otherOf t ws pos)
+  unfolding otherOf
+  other-plain t h =
+      ⊎-elim (λ l. rw (lt-ltb (length ws - pos) (sizeOf t) l) short-fits)
+      (λ l. rw (le-ltb (length ws - pos) (sizeOf t) l) (other-fits t (pos + sizeOf t) h (omega (arith, size-some t))))
+      (below (length ws - pos) (sizeOf t))
+
+  read-plain : (r : Read) (n : ℕ) → Near r → pos + 4 ≤ n → Plain ws pos (walkedOf r n)
+  read-plain (R.Message m) n h l = tt
+  read-plain (R.Refused r) n h l = refused-fits r n h l
+
+  framed-plain : (f : Framed) → Room ws pos f → Close f → Plain ws pos (framedOf f ws pos)
+  unfolding framedOf
+  framed-plain Short r c = short-fits
+  framed-plain (Broken b) r c = refused-fits b (pos + 4) c (omega arith)
+  framed-plain (Whole n) r c = read-plain (readOf (part ws pos (n .0))) (pos + n .0 * 4) (read-near (part ws pos (n .0))) (omega arith)
+
+  walk-plain : Plain ws pos (walkOf ws pos)
+  unfolding walkOf
+  walk-plain =
+      rw (lt-leb (length ws) pos inside)
+      (split (differ (typeOf (getD ws pos 0)) streamType)
+      (λ t. rw t (other-plain (typeOf (getD ws pos 0)) (omega arith)))
+      (λ t. rw t (framed-plain (frameOf ws pos) (frame-room ws pos) (frame-close ws pos))))
+
+  message-fits : (m : Message) (next : WordNumber) → walkOf ws pos ≡ W.Message m next → Fits ws pos (W.Message m next)
+  message-fits m next e =
+      let s = walk-formed ws pos m next e in
+      let n = ap (λ (w : WordNumber). w .0) (s .after) in
+      let l = message-length m _ (part ws pos (packetsIn m)) (s .formed) in
+      line-length (decimal pos) (messageShown m (part ws pos (packetsIn m))) _ pos-length (omega arith)
+
+  fits : (a : Walked) → walkOf ws pos ≡ a → Plain ws pos a → Onward pos (length ws) a → Fits ws pos a
+  fits W.End e h o = absurd o
+  fits (W.Other t size next) e h o = h
+  fits (W.Message m next) e h o = message-fits m next e
+  fits (W.Refused r next) e h o = h
+
+  -- A LINE takes at most 17 bytes for each word that it passes
+  pub line-room : length (lineOf (walkOf ws pos) ws pos) ≤ 17 * (nextOf (walkOf ws pos) pos - pos)
+  line-room = fits (walkOf ws pos) refl walk-plain (walk-onward ws pos inside)
+
+-- ---- all lines
+visits-room : (ws : List ℕ) (most pos : ℕ) → length ws ≤ 8192 → length (visitLines ws (visits most ws pos)) ≤ 17 * (length ws - pos)
+unfolding visits each
+visits-room ws zero pos few = omega arith
+visits-room ws (suc most) pos few =
+    ⊎-elim (λ g.
+    let n = next-between ws pos (nextOf (walkOf ws pos) pos) (walkOf ws pos) g refl refl in
+    rw (lt-ltb pos (length ws) g, length-append) (omega (arith, line-room ws pos few g, visits-room ws most (nextOf (walkOf ws pos) pos) few)))
+    (λ g. rw (le-ltb pos (length ws) g) (omega arith))
+    (below pos (length ws))
+
+pub lines-room : (ws : List ℕ) → length ws ≤ 8192 → length (linesOf ws) ≤ 17 * length ws
+lines-room ws few = omega (arith, visits-room ws (length ws) 0 few)
+
+words-length : (bytes : List ℕ) → length (wordsOf bytes) ≡ length bytes / 4
+unfolding wordsOf
+words-length bytes = length-tabulate (length bytes / 4) (wordAt bytes)
+
+end-length : (words leftover : ℕ) → words ≤ 8192 → leftover < 10 → length (endLine words leftover) ≤ 11
+unfolding each
+end-length words leftover h l = simp length-append (omega (arith, decimal-length 3 words (omega arith), decimal-length 0 leftover (omega arith)))
+
+-- ANY LISTING has at most 139,275 bytes
+pub listing-room : (bytes : List ℕ) → length (listingOf bytes) ≤ roomy
+unfolding listingOf
+listing-room bytes =
+    ⊎-elim (λ h. rw (lt-ltb 32768 (length bytes) h) (lit≤ tt))
+    (λ h.
+    let e = words-length bytes in
+    rw (le-ltb 32768 (length bytes) h, length-append)
+    (omega (arith, lines-room (wordsOf bytes) (omega arith), end-length (length bytes / 4) (length bytes % 4) (omega arith) (omega arith))))
+    (below 32768 (length bytes))
+
+-- what a program goes by follows from what was put
+pub listed : (bytes o : List ℕ) (r : ℕ) (p : List ℕ) → Wrote 0 o (listingOf bytes) r p → Listed bytes o r p
+listed bytes o r p w =
+    let f = within w (omega arith) in
+    record {
+      wrote = w;
+      fits = f;
+      counts = sym (length-take-le r p f);
+      whole = λ h. first w (omega (arith, listing-room bytes));
+    }
+
+-- ---- the two cases of the listing
+upTo-take : (n : ℕ) (f : ℕ → ℕ) (ws : List ℕ) → n ≤ length ws → take n (upTo n f ws) ≡ tabulate n f
+unfolding upTo tabulate
+upTo-take zero f ws h = refl
+upTo-take (suc n) f [] h = absurd (omega arith)
+upTo-take (suc n) f (w ∷ ws) h = ap (λ (l : List ℕ). f zero ∷ l) (upTo-take n (λ k. f (suc k)) ws (omega arith))
+
+pub too-long : (bytes : List ℕ) → 32768 < length bytes → tooLong ≡ listingOf bytes
+unfolding listingOf
+too-long bytes h = here _ (lt-ltb 32768 (length bytes) h) refl
+
+-- the words read into a buffer of 8,192, and the lines of them
+pub all-listed : (bytes ws zs : List ℕ) (n : ℕ) → length bytes ≤ 32768 → length zs ≡ 8192 → n ≡ min (length bytes / 4) (length zs) → ws ≡ upTo n (wordAt bytes) zs → linesOf (take n ws) ++ endLine n (length bytes % 4) ≡ listingOf bytes
+unfolding listingOf wordsOf
+all-listed bytes ws zs n h l e f =
+    let m : n ≡ length bytes / 4 = omega arith in
+    past _ (le-ltb 32768 (length bytes) h) (rw (f, upTo-take n (wordAt bytes) zs (omega arith), m))

@@ -1,0 +1,97 @@
+// A line for each answer of the walk.
+ghost use mathlib.Core.Path.{_≡_};
+ghost use Prim.Native.Nat.{_<_};
+ghost use lib.ListN.{length};
+ghost use Rattle.standard.specs.Walk.{walkOf};
+ghost use Rattle.walking.specs.Visits.{nextOf};
+ghost use Rattle.lines.specs.Page.{Wrote};
+ghost use Rattle.listing.specs.Lines.{otherShown, refusalShown, answerShown, lineOf, endLine};
+ghost use Rattle.listing.specs.Listing.{linesOf};
+use crate::codes::refusal_number;
+use crate::codes::refusal_place;
+use crate::messages::put_message;
+use counts::WordNumber;
+use kinds::refusal::Refusal;
+use records::answers::Walked;
+
+fn put_other(out: &mut [u8], at: usize, ump_type: u32, size: WordNumber) -> usize
+    ensures { λ r. ⌜ Wrote at (now (out .entry)) (otherShown «ump_type» size) r (now (out .exit)) ⌝ }
+{
+    let ns = [ump_type as u64, size.0 as u64];
+    lines::put_named(out, at, b" other", &ns)
+}
+
+fn put_refusal(out: &mut [u8], at: usize, refusal: Refusal) -> usize
+    ensures { λ r. ⌜ Wrote at (now (out .entry)) (refusalShown refusal) r (now (out .exit)) ⌝ }
+{
+    let ns = [refusal_number(refusal), refusal_place(refusal) as u64];
+    lines::put_named(out, at, b" refused", &ns)
+}
+
+// What the line at a position says after it, of what the walk answers there.
+fn put_answer(out: &mut [u8], at: usize, words: &[u32], pos: usize, answer: Walked) -> usize
+    requires { ⌜ answer ≡ walkOf (now words) pos ⌝ }
+    ensures { λ r. ⌜ Wrote at (now (out .entry)) (answerShown answer (now (words .entry)) pos) r (now (out .exit)) ⌝ }
+{
+    match answer {
+        Walked::End => at,
+        Walked::Other {
+            ump_type,
+            size,
+            next: _,
+        } => put_other(out, at, ump_type, size),
+        Walked::Message { message, next } => {
+            let after = next.0;
+            put_message(out, at, message, &words[pos..after])
+        }
+        Walked::Refused { refusal, next: _ } => put_refusal(out, at, refusal),
+    }
+}
+
+fn put_line(out: &mut [u8], at: usize, words: &[u32], pos: usize, answer: Walked) -> usize
+    requires { ⌜ answer ≡ walkOf (now words) pos ⌝ }
+    ensures { λ r. ⌜ Wrote at (now (out .entry)) (lineOf answer (now (words .entry)) pos) r (now (out .exit)) ⌝ }
+{
+    let p = lines::put_decimal(out, at, pos as u64);
+    let q = put_answer(out, p, words, pos, answer);
+    lines::put_byte(out, q, b'\n')
+}
+
+// The position after an answer.
+fn next_of(answer: Walked, pos: usize) -> usize
+    ensures { λ r. ⌜ r ≡ nextOf answer pos ⌝ }
+{
+    match answer {
+        Walked::End => pos,
+        Walked::Other {
+            ump_type: _,
+            size: _,
+            next,
+        } => next.0,
+        Walked::Message { message: _, next } => next.0,
+        Walked::Refused { refusal: _, next } => next.0,
+    }
+}
+
+// All lines but the last: the walk is asked once at each position that it comes to.
+pub(crate) fn put_lines(out: &mut [u8], at: usize, words: &[u32]) -> usize
+    ensures { λ r. ⌜ Wrote at (now (out .entry)) (linesOf (now (words .entry))) r (now (out .exit)) ⌝ }
+{
+    let mut p = at;
+    let mut pos = 0;
+    while pos < words.len() {
+        let answer = walking::walk(words, WordNumber(pos));
+        p = put_line(out, p, words, pos, answer);
+        pos = next_of(answer, pos);
+    }
+    p
+}
+
+// The last line: whole words, leftover bytes.
+pub(crate) fn put_end(out: &mut [u8], at: usize, words: usize, leftover: usize) -> usize
+    ensures { λ r. ⌜ Wrote at (now (out .entry)) (endLine words leftover) r (now (out .exit)) ⌝ }
+{
+    let ns = [words as u64, leftover as u64];
+    let p = lines::put_named(out, at, b"end", &ns);
+    lines::put_byte(out, p, b'\n')
+}
