@@ -7,6 +7,8 @@ use Rattle.kinds.specs.declared.kind.Kind.{Kind}
 use Rattle.kinds.specs.declared.kind.Kind.the-variants as K
 use Rattle.kinds.specs.declared.refusal.Refusal.{Refusal}
 use Rattle.records.specs.declared.message.Message.{Message}
+use Rattle.records.specs.declared.answers.Read.{Read}
+use Rattle.records.specs.declared.answers.Read.the-variants as R
 use Rattle.records.specs.declared.answers.Walked.{Walked}
 use Rattle.records.specs.declared.answers.Walked.the-variants as W
 use Rattle.kinds.specs.Refusals.{numberOf, placeOf}
@@ -42,6 +44,11 @@ otherShown t size = ascii " other" ++ numbers (t ∷ size .0 ∷ [])
 -- a refusal: its number and place
 abbrev pub refusalShown : Refusal → List ℕ
 refusalShown r = ascii " refused" ++ numbers (numberOf r ∷ placeOf r ∷ [])
+
+-- one message, as reading answers it
+abbrev pub readShown : Read → List ℕ → List ℕ
+readShown (R.Message m) ws = messageShown m ws
+readShown (R.Refused r) ws = refusalShown r
 
 abbrev pub answerShown : Walked → List ℕ → ℕ → List ℕ
 answerShown W.End ws pos = []

@@ -21,7 +21,7 @@ fn put_other(out: &mut [u8], at: usize, ump_type: u32, size: WordNumber) -> usiz
     lines::put_named(out, at, b" other", &ns)
 }
 
-fn put_refusal(out: &mut [u8], at: usize, refusal: Refusal) -> usize
+pub(crate) fn put_refusal(out: &mut [u8], at: usize, refusal: Refusal) -> usize
     ensures { λ r. ⌜ Wrote at (now (out .entry)) (refusalShown refusal) r (now (out .exit)) ⌝ }
 {
     let ns = [refusal_number(refusal), refusal_place(refusal) as u64];

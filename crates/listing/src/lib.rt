@@ -4,8 +4,9 @@ ghost use Rattle.listing.specs.Listed.{Listed};
 mod answers;
 mod codes;
 mod messages;
+pub mod one;
 mod shown;
-mod words;
+pub mod words;
 
 use answers::put_end;
 use answers::put_lines;

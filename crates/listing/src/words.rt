@@ -33,7 +33,7 @@ fn least(a: usize, b: usize) -> usize
 }
 
 // The words into the lent ones, as far as both go, and how many they are.
-pub(crate) fn read_words(bytes: &[u8], words: &mut [u32]) -> usize
+pub fn read_words(bytes: &[u8], words: &mut [u32]) -> usize
     ensures { λ r. ⌜ r ≡ min (length (now (bytes .entry)) / 4) (length (now (words .entry))) ⌝ }
     ensures { λ r. ⌜ now (words .exit) ≡ upTo r (wordAt (now (bytes .entry))) (now (words .entry)) ⌝ }
 {

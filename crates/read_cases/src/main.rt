@@ -1,0 +1,53 @@
+// Runs stored cases through reading one message, and prints a line for each. Standard input has each case as the count of its words
+// in sixteen bits and then the words, big-endian. Most cases and their answers come from an independent reading of document 01;
+// the last ones are 64 and 65 packets, and each refusal with its place.
+ghost use Prim.Native.Nat.{_<_};
+use libc::STDIN_FILENO;
+use libc::STDOUT_FILENO;
+
+fn wide(byte: u8) -> usize
+    ensures { λ r. ⌜ r < 256 ⌝ }
+{
+    byte as usize
+}
+
+// The line of one case.
+fn put_case(bytes: &[u8], out: &mut [u8], at: usize) -> usize {
+    let mut words = [0u32; 512];
+    let n = listing::words::read_words(bytes, &mut words);
+    if n > 512 {
+        return at;
+    }
+    let p = listing::one::show(&words[0..n], out, at);
+    lines::put_byte(out, p, b'\n')
+}
+
+// The lines of all cases.
+fn run(input: &[u8], out: &mut [u8]) -> usize {
+    let mut i = 0;
+    let mut p = 0;
+    while i < input.len() {
+        if input.len() - i < 2 {
+            return p;
+        }
+        let count = wide(input[i]) * 256 + wide(input[i + 1]);
+        let from = i + 2;
+        if (input.len() - from) / 4 < count {
+            return p;
+        }
+        let to = from + count * 4;
+        p = put_case(&input[from..to], out, p);
+        i = to;
+    }
+    p
+}
+
+fn main() {
+    let mut input = [0u8; 65536];
+    let n = io::read_full(STDIN_FILENO, &mut input);
+    let mut out = [0u8; 65536];
+    let r = run(&input[..n], &mut out);
+    if r <= 65536 {
+        io::write_all(STDOUT_FILENO, &out[0..r]);
+    }
+}
