@@ -16,26 +16,6 @@ use Rattle.kinds.specs.Fields.{Field, same, decided, Field-discrete, Flag-discr
 use Rattle.kinds.specs.Layout.{Part, layout, kinds, kindOf, none, slotsOf}
 use Rattle.kinds.proofs.Rows.{status-kind}
 
--- the status of the first of some kinds that has a field
-home : List Kind → Field → ℕ
-home [] f = 0
-home (k ∷ ks) f = pick (none (slotsOf f (layout k .fields))) (home ks f) (layout k .status)
-
--- each field of a table has this home
-homely : ℕ → List (Slot Part) → Bool
-homely n [] = true
-homely n (s ∷ ss) = both (eqb (home kinds (s .key .field)) n) (homely n ss)
-
-rows-homely : (k : Kind) → homely (layout k .status) (layout k .fields) ≡ true
-unfolding homely home layout those same decided both
-rows-homely K.EndpointDiscovery = refl
-rows-homely K.EndpointInfo = refl
-rows-homely K.DeviceIdentity = refl
-rows-homely K.EndpointName = refl
-rows-homely K.ProductInstanceId = refl
-rows-homely K.FunctionBlockInfo = refl
-rows-homely K.FunctionBlockName = refl
-
 holds : {A : Type 0} (d : Dec A) → decided d ≡ true → A
 unfolding decided
 holds (yes a) e = a
@@ -46,14 +26,37 @@ pub one-field : (f g : Field) → same f g ≡ true → f ≡ g
 unfolding same
 one-field f g e = holds (Field-discrete Flag-discrete Number-discrete Pair-discrete Text-discrete f g) e
 
-home-is : (f : Field) (n : ℕ) (t : List (Slot Part)) → homely n t ≡ true → none (slotsOf f t) ≡ false → home kinds f ≡ n
-unfolding homely those
-home-is f n [] h e = true-false e
-home-is f n (s ∷ ss) h e = go (same (s .key .field) f) refl e (home-is f n ss (both-right _ _ h))
+-- ---- a test that each field of a table passes, a field of the table passes
+unfoldable pub all : (Field → Bool) → List (Slot Part) → Bool
+all p [] = true
+all p (s ∷ ss) = both (p (s .key .field)) (all p ss)
+
+pub passes : (p : Field → Bool) (t : List (Slot Part)) (f : Field) → all p t ≡ true → none (slotsOf f t) ≡ false → p f ≡ true
+unfolding all those
+passes p [] f h e = true-false e
+passes p (s ∷ ss) f h e = go (same (s .key .field) f) refl e (passes p ss f (both-right _ _ h))
   where
-    go : (b : Bool) → same (s .key .field) f ≡ b → none (pick b (s ∷ slotsOf f ss) (slotsOf f ss)) ≡ false → (none (slotsOf f ss) ≡ false → home kinds f ≡ n) → home kinds f ≡ n
-    go true q e′ ih = ap (home kinds) (sym (one-field _ _ q)) ∙ eqb-true _ _ (both-left _ _ h)
+    go : (b : Bool) → same (s .key .field) f ≡ b → none (pick b (s ∷ slotsOf f ss) (slotsOf f ss)) ≡ false → (none (slotsOf f ss) ≡ false → p f ≡ true) → p f ≡ true
+    go true q e′ ih = ap p (sym (one-field _ _ q)) ∙ both-left _ _ h
     go false q e′ ih = ih e′
+
+-- ---- the status of the first of some kinds that has a field
+home : List Kind → Field → ℕ
+home [] f = 0
+home (k ∷ ks) f = pick (none (slotsOf f (layout k .fields))) (home ks f) (layout k .status)
+
+rows-home : (k : Kind) → all (λ f. eqb (home kinds f) (layout k .status)) (layout k .fields) ≡ true
+unfolding all home layout those same decided both
+rows-home K.EndpointDiscovery = refl
+rows-home K.EndpointInfo = refl
+rows-home K.DeviceIdentity = refl
+rows-home K.EndpointName = refl
+rows-home K.ProductInstanceId = refl
+rows-home K.FunctionBlockInfo = refl
+rows-home K.FunctionBlockName = refl
+
+home-is : (k : Kind) (f : Field) → none (slotsOf f (layout k .fields)) ≡ false → home kinds f ≡ layout k .status
+home-is k f h = eqb-true _ _ (passes (λ g. eqb (home kinds g) (layout k .status)) (layout k .fields) f (rows-home k) h)
 
 -- a status is of one kind
 pub one-status : (j k : Kind) → layout j .status ≡ layout k .status → j ≡ k
@@ -61,7 +64,7 @@ one-status j k e = let q : Is j ≡ Is k = sym (status-kind j) ∙ ap kindOf e �
 
 -- two kinds that have a field are one
 pub one-kind : (j k : Kind) (f : Field) → none (slotsOf f (layout j .fields)) ≡ false → none (slotsOf f (layout k .fields)) ≡ false → j ≡ k
-one-kind j k f a b = one-status j k (sym (home-is f _ _ (rows-homely j) a) ∙ home-is f _ _ (rows-homely k) b)
+one-kind j k f a b = one-status j k (sym (home-is j f a) ∙ home-is k f b)
 
 -- so every other kind lacks it
 pub elsewhere : (k j : Kind) (f : Field) → none (slotsOf f (layout k .fields)) ≡ false → (j ≡ k → ⊥) → none (slotsOf f (layout j .fields)) ≡ true

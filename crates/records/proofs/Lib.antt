@@ -2,3 +2,4 @@ pub mod Records
 pub mod Settings
 pub mod Homes
 pub mod Others
+pub mod Promises

@@ -2,12 +2,13 @@
 use Prim.Native.Nat.{ℕ, suc, _<_, _≤_, _/_, _%_}
 use mathlib.Core.Path.{_≡_, refl, sym, ap, _∙_}
 use mathlib.Core.Bool.{Bool, true, false, not}
+use mathlib.Core.Logic.{⊎-elim}
 use mathlib.Core.List.{List, [], _∷_}
 use native.Mathlib.Omega.{arith}
 use lib.Dec.{ltb}
-use borrow.Author.Tests.{lt-ltb, le-ltb}
+use borrow.Author.Tests.{lt-ltb, le-ltb, ltb-true, not-false}
 use Rattle.laws.specs.Pick.{pick, both}
-use Rattle.laws.proofs.Pick.{here, past}
+use Rattle.laws.proofs.Pick.{here, past, below, both-left, both-right}
 use Rattle.slots.specs.Slots.{those, fits}
 use Rattle.kinds.specs.declared.choices.UiHint.{UiHint}
 use Rattle.kinds.specs.declared.choices.UiHint.the-variants as H
@@ -23,11 +24,11 @@ use Rattle.records.specs.declared.message.Message.{Message}
 use Rattle.records.specs.declared.message.Message.the-variants as M
 use Rattle.records.specs.declared.answers.Answer.the-variants as A
 use Rattle.records.specs.Records.{kindIn, packetsIn, recordOf, fieldsIn, lookup, valuesOf}
-use Rattle.records.specs.Settings.{with, lacks, tooLarge, edited, setRecord}
+use Rattle.records.specs.Settings.{with, lacks, tooLarge, edited, setRecord, septets}
 
 -- to unfold this is to unfold what computes the table and a record at a kind
 unfoldable pub table : Unit {0}
-unfolding layout those same decided fits both partOf recordOf fieldsIn lookup
+unfolding layout those same decided fits both partOf recordOf fieldsIn lookup septets
 table = tt
 
 module _ (s : Setting) (m : Message) where
@@ -64,7 +65,22 @@ pub small : (x l : ℕ) (b : Bool) {z : Bool} → x ≤ l → not b ≡ z → no
 unfolding both
 small x l b h e = rw (lt-ltb x (suc l) (omega arith)) e
 
--- two septets
+pub above : (x l : ℕ) → ltb l x ≡ not (both (ltb x (suc l)) true)
+above x l =
+    ⊎-elim (λ (h : l < x). lt-ltb l x h ∙ sym (large x l true h))
+    (λ (h : x ≤ l). le-ltb l x h ∙ sym (small x l true h refl)) (below l x)
+
+-- four septets
+pub are-septets : (a b c d : ℕ) → not (septets (a ∷ b ∷ c ∷ d ∷ [])) ≡ false → (a < 128) × (b < 128) × (c < 128) × (d < 128)
+unfolding septets
+are-septets a b c d e =
+    let s0 = not-false _ e in
+    let s1 = both-right (ltb a 128) _ s0 in
+    let s2 = both-right (ltb b 128) _ s1 in
+    let s3 = both-right (ltb c 128) _ s2 in
+    (ltb-true _ _ (both-left _ _ s0), ltb-true _ _ (both-left _ _ s1), ltb-true _ _ (both-left _ _ s2), ltb-true _ _ (both-left _ _ s3))
+
+-- two septets of a pair
 pub small-pair : (x : ℕ) → x ≤ 16383 → not (both (ltb (x % 128) 128) (both (ltb (x / 128) 128) true)) ≡ false
 unfolding both
 small-pair x h = rw (lt-ltb (x % 128) 128 (omega arith), lt-ltb (x / 128) 128 (omega arith))

@@ -2,8 +2,8 @@
 use Prim.Native.Nat.{ℕ}
 use mathlib.Core.Bool.{Bool, true, false, not}
 use mathlib.Core.List.{List, [], _∷_}
-use lib.Dec.{eqb}
-use Rattle.laws.specs.Pick.{pick}
+use lib.Dec.{ltb, eqb}
+use Rattle.laws.specs.Pick.{pick, both}
 use Rattle.slots.specs.Slots.{Slot, fits}
 use Rattle.kinds.specs.declared.kind.Kind.{Kind}
 use Rattle.kinds.specs.declared.choices.UiHint.{UiHint}
@@ -54,7 +54,13 @@ minorOf k = pick (eqb (layout k .status) 0x00) Number.discovery-version-minor Nu
 abbrev pub nameOf : Kind → Text
 nameOf k = pick (eqb (layout k .status) 0x12) Text.function-block-name Text.endpoint-name
 
--- ---- a block with other choices
+-- ---- what the settings' own steps say
+-- each number is one of seven bits
+unfoldable pub septets : List ℕ → Bool
+septets [] = true
+septets (x ∷ xs) = both (ltb x 128) (septets xs)
+
+-- a block with other choices
 abbrev pub chosenIn : FunctionBlockInfo → UiHint → Midi1Port → Direction → FunctionBlockInfo
 chosenIn b h p d =
     record {

@@ -6,8 +6,10 @@ use crate::answers::then;
 use crate::answers::too_large;
 use crate::message::Message;
 ghost use mathlib.Core.Path.{_≡_};
+ghost use mathlib.Core.Bool.{not};
+ghost use mathlib.Core.List.{[], _∷_};
 ghost use Rattle.kinds.specs.Fields.{Pair, Setting};
-ghost use Rattle.records.specs.Settings.{setRecord, setEdited};
+ghost use Rattle.records.specs.Settings.{septets, setRecord, setEdited};
 
 // One field of three numbers.
 pub struct Manufacturer(pub u8, pub u8, pub u8);
@@ -22,6 +24,23 @@ pub struct DeviceIdentity {
     pub software_version: SoftwareVersion,
 }
 
+// One of these is no number of seven bits. Three numbers come with a 0.
+fn any_above_127(a: u32, b: u32, c: u32, d: u32) -> bool
+    ensures { λ r. ⌜ r ≡ not (septets (a ∷ b ∷ c ∷ d ∷ [])) ⌝ }
+{
+    if a > 127 {
+        return true;
+    }
+    if b > 127 {
+        return true;
+    }
+    if c > 127 {
+        return true;
+    }
+    d > 127
+}
+
+// Settings on a record.
 impl Message {
     pub fn set_device_manufacturer(mut self, first: u32, second: u32, third: u32) -> Edited
         ensures { λ r. ⌜ r ≡ setRecord (Setting.device-manufacturer first second third) self ⌝ }
@@ -29,13 +48,7 @@ impl Message {
         let Message::DeviceIdentity(mut identity) = self else {
             return no_such_field(self);
         };
-        if first > 127 {
-            return too_large(self);
-        }
-        if second > 127 {
-            return too_large(self);
-        }
-        if third > 127 {
+        if any_above_127(first, second, third, 0) {
             return too_large(self);
         }
         let numbers = Manufacturer(first as u8, second as u8, third as u8);
@@ -84,16 +97,7 @@ impl Message {
         let Message::DeviceIdentity(mut identity) = self else {
             return no_such_field(self);
         };
-        if first > 127 {
-            return too_large(self);
-        }
-        if second > 127 {
-            return too_large(self);
-        }
-        if third > 127 {
-            return too_large(self);
-        }
-        if fourth > 127 {
+        if any_above_127(first, second, third, fourth) {
             return too_large(self);
         }
         let numbers = SoftwareVersion(first as u8, second as u8, third as u8, fourth as u8);
@@ -103,6 +107,7 @@ impl Message {
     }
 }
 
+// The same on what a setting handed back, so that a chain goes on.
 impl Edited {
     pub fn set_device_manufacturer(self, first: u32, second: u32, third: u32) -> Edited
         ensures { λ r. ⌜ r ≡ setEdited (Setting.device-manufacturer first second third) self ⌝ }

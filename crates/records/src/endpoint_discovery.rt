@@ -18,6 +18,7 @@ pub struct EndpointDiscovery {
     pub request_stream_configuration: bool,
 }
 
+// Settings on a record.
 impl Message {
     pub fn set_request_endpoint_info(mut self, on: bool) -> Edited
         ensures { λ r. ⌜ r ≡ setRecord (Setting.flag Flag.request-endpoint-info on) self ⌝ }
@@ -75,6 +76,7 @@ impl Message {
     }
 }
 
+// The same on what a setting handed back, so that a chain goes on.
 impl Edited {
     pub fn set_request_endpoint_info(self, on: bool) -> Edited
         ensures { λ r. ⌜ r ≡ setEdited (Setting.flag Flag.request-endpoint-info on) self ⌝ }

@@ -20,6 +20,7 @@ pub struct EndpointInfo {
     pub number_of_function_blocks: u8,
 }
 
+// Settings on a record.
 impl Message {
     pub fn set_static_function_blocks(mut self, on: bool) -> Edited
         ensures { λ r. ⌜ r ≡ setRecord (Setting.flag Flag.static-function-blocks on) self ⌝ }
@@ -91,6 +92,7 @@ impl Message {
     }
 }
 
+// The same on what a setting handed back, so that a chain goes on.
 impl Edited {
     pub fn set_static_function_blocks(self, on: bool) -> Edited
         ensures { λ r. ⌜ r ≡ setEdited (Setting.flag Flag.static-function-blocks on) self ⌝ }

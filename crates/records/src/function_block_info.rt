@@ -46,6 +46,7 @@ fn chosen(
     }
 }
 
+// Settings on a record.
 impl Message {
     pub fn set_active(mut self, on: bool) -> Edited
         ensures { λ r. ⌜ r ≡ setRecord (Setting.flag Flag.active on) self ⌝ }
@@ -165,6 +166,7 @@ impl Message {
     }
 }
 
+// The same on what a setting handed back, so that a chain goes on.
 impl Edited {
     pub fn set_active(self, on: bool) -> Edited
         ensures { λ r. ⌜ r ≡ setEdited (Setting.flag Flag.active on) self ⌝ }

@@ -9,6 +9,7 @@ ghost use mathlib.Core.Path.{_≡_};
 ghost use Rattle.kinds.specs.Fields.{Number, Setting};
 ghost use Rattle.records.specs.Settings.{setRecord, setEdited};
 
+// Settings on a record.
 impl Message {
     pub fn set_function_block(mut self, number: u32) -> Edited
         ensures { λ r. ⌜ r ≡ setRecord (Setting.number Number.function-block number) self ⌝ }
@@ -31,6 +32,7 @@ impl Message {
     }
 }
 
+// The same on what a setting handed back, so that a chain goes on.
 impl Edited {
     pub fn set_function_block(self, number: u32) -> Edited
         ensures { λ r. ⌜ r ≡ setEdited (Setting.number Number.function-block number) self ⌝ }

@@ -1,4 +1,4 @@
-// The settings of text on a record, which has none: each is refused.
+// Text is not in a record, so each setting of it is refused.
 use crate::answers::Edited;
 use crate::answers::no_such_field;
 use crate::answers::then;
@@ -8,6 +8,7 @@ ghost use Rattle.kinds.specs.Fields.{Setting, Text};
 ghost use Rattle.records.specs.Records.{kindIn};
 ghost use Rattle.records.specs.Settings.{nameOf, setRecord, setEdited};
 
+// Settings on a record.
 impl Message {
     pub fn set_name(mut self, text: &[u8]) -> Edited
         ensures { λ r. ⌜ r ≡ setRecord (Setting.text (nameOf (kindIn self)) (now (text .entry))) self ⌝ }
@@ -22,6 +23,7 @@ impl Message {
     }
 }
 
+// The same on what a setting handed back, so that a chain goes on.
 impl Edited {
     pub fn set_name(self, text: &[u8]) -> Edited
         ensures { λ r. ⌜ r ≡ setEdited (Setting.text (nameOf (kindIn (self .message))) (now (text .entry))) self ⌝ }

@@ -10,6 +10,7 @@ ghost use Rattle.kinds.specs.Fields.{Setting};
 ghost use Rattle.records.specs.Records.{kindIn};
 ghost use Rattle.records.specs.Settings.{majorOf, minorOf, setRecord, setEdited};
 
+// Settings on a record.
 impl Message {
     pub fn set_ump_version_major(mut self, number: u32) -> Edited
         ensures { λ r. ⌜ r ≡ setRecord (Setting.number (majorOf (kindIn self)) number) self ⌝ }
@@ -58,6 +59,7 @@ impl Message {
     }
 }
 
+// The same on what a setting handed back, so that a chain goes on.
 impl Edited {
     pub fn set_ump_version_major(self, number: u32) -> Edited
         ensures { λ r. ⌜ r ≡ setEdited (Setting.number (majorOf (kindIn (self .message))) number) self ⌝ }

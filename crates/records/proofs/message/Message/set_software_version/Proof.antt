@@ -1,8 +1,8 @@
 -- Setting `software_version` on a record.
-use mathlib.Core.Path.{refl, _∙_}
+use mathlib.Core.Path.{refl, sym, _∙_}
 use borrow.Author.Needs.{needs}
 use Rattle.kinds.specs.declared.kind.Kind.the-variants as K
-use Rattle.records.proofs.Settings.{table, too-large, made, small, large}
+use Rattle.records.proofs.Settings.{table, too-large, made, are-septets}
 use Rattle.records.proofs.Others.{other}
 use Rattle.records.proofs.message.Message.set_software_version.Statement.{statement}
 use Rattle.records.proofs.message.Message.set_software_version.Tie as tie
@@ -17,52 +17,34 @@ returns : tie.Need-returns
 unfolding table
 returns c = c .no-such-field .ensures ∙ other K.DeviceIdentity _ _ refl (c .before .match .keys2)
 
+any-above-127-requires : tie.Need-any-above-127-requires
+any-above-127-requires c κs = search needs
+
 too-large-requires : tie.Need-too-large-requires
 too-large-requires c κs = search needs
 
 returns-2 : tie.Need-returns-2
 unfolding table
-returns-2 c = c .too-large .ensures ∙ rw (c .before .before .before .self .given .1) (too-large _ _ refl (large _ _ _ (c .before .if1 .taken)))
-
-too-large-requires-2 : tie.Need-too-large-requires-2
-too-large-requires-2 c κs = search needs
-
-returns-3 : tie.Need-returns-3
-unfolding table
-returns-3 c = c .too-large2 .ensures ∙ rw (c .before .before .before .before .self .given .1) (too-large _ _ refl (small _ _ _ (c .before .before .if1 .left) (large _ _ _ (c .before .if2 .taken))))
-
-too-large-requires-3 : tie.Need-too-large-requires-3
-too-large-requires-3 c κs = search needs
-
-returns-4 : tie.Need-returns-4
-unfolding table
-returns-4 c = c .too-large3 .ensures ∙ rw (c .before .before .before .before .before .self .given .1) (too-large _ _ refl (small _ _ _ (c .before .before .before .if1 .left) (small _ _ _ (c .before .before .if2 .left) (large _ _ _ (c .before .if3 .taken)))))
-
-too-large-requires-4 : tie.Need-too-large-requires-4
-too-large-requires-4 c κs = search needs
-
-returns-5 : tie.Need-returns-5
-unfolding table
-returns-5 c = c .too-large4 .ensures ∙ rw (c .before .before .before .before .before .before .self .given .1) (too-large _ _ refl (small _ _ _ (c .before .before .before .before .if1 .left) (small _ _ _ (c .before .before .before .if2 .left) (small _ _ _ (c .before .before .if3 .left) (large _ _ _ (c .before .if4 .taken))))))
+returns-2 c = c .too-large .ensures ∙ rw (c .before .before .before .before .self .given .1) (too-large _ _ refl (sym (c .before .before .any-above-127 .ensures) ∙ c .before .if1 .taken))
 
 cast-t9 : tie.Need-cast-t9
-cast-t9 c = search needs
+cast-t9 c = let h = are-septets _ _ _ _ (sym (c .before .any-above-127 .ensures) ∙ c .if1 .left) in search needs
 
 cast-t10 : tie.Need-cast-t10
-cast-t10 c = search needs
+cast-t10 c = let h = are-septets _ _ _ _ (sym (c .before .any-above-127 .ensures) ∙ c .if1 .left) in search needs
 
 cast-t11 : tie.Need-cast-t11
-cast-t11 c = search needs
+cast-t11 c = let h = are-septets _ _ _ _ (sym (c .before .any-above-127 .ensures) ∙ c .if1 .left) in search needs
 
 cast-t12 : tie.Need-cast-t12
-cast-t12 c = search needs
+cast-t12 c = let h = are-septets _ _ _ _ (sym (c .before .any-above-127 .ensures) ∙ c .if1 .left) in search needs
 
 done-requires : tie.Need-done-requires
 done-requires c κs = search needs
 
-returns-6 : tie.Need-returns-6
+returns-3 : tie.Need-returns-3
 unfolding table
-returns-6 c = c .done .ensures ∙ rw (c .before .before .before .before .before .before .self .given .1) (made _ _ refl (small _ _ _ (c .before .before .before .before .if1 .left) (small _ _ _ (c .before .before .before .if2 .left) (small _ _ _ (c .before .before .if3 .left) (small _ _ _ (c .before .if4 .left) refl)))) refl)
+returns-3 c = c .done .ensures ∙ rw (c .before .before .before .before .self .given .1) (made _ _ refl (sym (c .before .before .any-above-127 .ensures) ∙ c .before .if1 .left) refl)
 
 pub set-software-version-spec : {M : Type 1} → statement M
 set-software-version-spec =
@@ -71,17 +53,12 @@ set-software-version-spec =
     enum-known-self
     no-such-field-requires
     returns
+    any-above-127-requires
     too-large-requires
     returns-2
-    too-large-requires-2
-    returns-3
-    too-large-requires-3
-    returns-4
-    too-large-requires-4
-    returns-5
     cast-t9
     cast-t10
     cast-t11
     cast-t12
     done-requires
-    returns-6)
+    returns-3)

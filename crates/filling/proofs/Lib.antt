@@ -1,0 +1,4 @@
+pub mod Puts
+pub mod Turns
+pub mod Octets
+pub mod Numbers

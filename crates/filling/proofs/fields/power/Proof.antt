@@ -1,0 +1,13 @@
+use Rattle.laws.proofs.Bits.{one-shl}
+use borrow.Author.Needs.{needs}
+use Rattle.filling.proofs.fields.power.Statement.{statement}
+use Rattle.filling.proofs.fields.power.Tie as tie
+
+shl-result : tie.Need-shl-result
+shl-result c = search needs
+
+returns : tie.Need-returns
+returns c = one-shl (c .pre)
+
+pub power-spec : {M : Type 1} → statement M
+power-spec = tie.close (tie.spec shl-result returns)

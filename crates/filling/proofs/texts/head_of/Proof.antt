@@ -1,0 +1,23 @@
+use mathlib.Core.Path.{_∙_, ap}
+use lib.Dec.{lit≤}
+use Rattle.text.proofs.Needed.{due-small}
+use Rattle.filling.specs.Filling.{formatted}
+use Rattle.filling.proofs.Puts.{safe-put}
+use borrow.Author.Needs.{needs}
+use Rattle.filling.proofs.texts.head_of.Statement.{statement}
+use Rattle.filling.proofs.texts.head_of.Tie as tie
+
+due-format-requires : tie.Need-due-format-requires
+due-format-requires c κs = search needs
+
+cast-with-field : tie.Need-cast-with-field
+cast-with-field c = search needs
+
+with-field-requires : tie.Need-with-field-requires
+with-field-requires c κs = search needs
+
+returns : tie.Need-returns
+returns c = c .with-field .ensures ∙ safe-put _ 26 2 _ (lit≤ tt) (rw (c .before .due-format .ensures) (due-small _ _)) ∙ ap (formatted (c .before .before .args .head)) (c .before .due-format .ensures)
+
+pub head-of-spec : {M : Type 1} → statement M
+head-of-spec = tie.close (tie.spec due-format-requires cast-with-field with-field-requires returns)

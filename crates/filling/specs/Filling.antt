@@ -1,0 +1,44 @@
+-- What each act leaves of a buffer, whatever its numbers are: an act that cannot be done changes nothing.
+use Prim.Native.Nat.{ℕ, suc, _+_, _-_, _*_, _/_, _^_}
+use mathlib.Core.Bool.{Bool, true}
+use mathlib.Core.List.{List, [], _∷_}
+use lib.ListN.{length, getD, set}
+use lib.Dec.{ltb, leb}
+use Rattle.laws.specs.Pick.{pick, both}
+use Rattle.laws.specs.Bits.{putField}
+use Rattle.text.specs.Written.{written, eachFirst}
+
+-- a word with a number in a field; as it was where it has no such bits, or where the number is too large for them
+unfoldable pub putSafe : ℕ → ℕ → ℕ → ℕ → ℕ
+putSafe w at span v = pick (ltb 32 (at + span)) w (pick (ltb v (2 ^ span)) (putField w at span v) w)
+
+-- the same in one word of a buffer
+unfoldable pub putIn : ℕ → ℕ → ℕ → ℕ → List ℕ → List ℕ
+putIn word at span v ws = set ws word (putSafe (getD ws word 0) at span v)
+
+-- numbers in the septets of a word, one an octet; octet 0 is the highest
+unfoldable pub putSeptets : ℕ → ℕ → List ℕ → List ℕ → List ℕ
+putSeptets word octet [] ws = ws
+putSeptets word octet (x ∷ xs) ws = putIn word (24 - octet * 8) 7 x (putSeptets word (suc octet) xs ws)
+
+-- where the word has so many octets
+unfoldable pub fillSeptets : ℕ → ℕ → List ℕ → List ℕ → List ℕ
+fillSeptets word octet xs ws = pick (ltb 4 (octet + length xs)) ws (putSeptets word octet xs ws)
+
+-- each number has at most seven bits
+unfoldable pub areSeptets : List ℕ → Bool
+areSeptets [] = true
+areSeptets (x ∷ xs) = both (ltb x 128) (areSeptets xs)
+
+-- a number in the first word of each of n packets, where the buffer has so many
+unfoldable pub putEach : ℕ → ℕ → ℕ → ℕ → List ℕ → List ℕ
+putEach n at span v ws = pick (ltb (length ws / 4) n) ws (eachFirst n (λ w. putSafe w at span v) ws)
+
+-- the head of a text packet by its format: one word, with the format in its place
+abbrev pub formatted : ℕ → ℕ → ℕ
+formatted head format = putField head 26 2 format
+
+-- text in n packets, at most 64, from octet 2 + offset of each on, where that leaves room in a packet
+unfoldable pub fillText : List ℕ → ℕ → ℕ → ℕ → List ℕ → List ℕ
+fillText text offset head n ws =
+    pick (leb 14 offset) ws (pick (ltb 64 n) ws (written ws text (formatted head) (14 - offset) n))

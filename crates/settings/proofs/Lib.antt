@@ -1,0 +1,4 @@
+pub mod Left
+pub mod Room
+pub mod Owned
+pub mod Slots

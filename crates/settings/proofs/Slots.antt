@@ -1,0 +1,139 @@
+-- What a setting of a fixed kind leaves, case by case, and which slots the table gives it. Closed by the tests that lead to each case; the table is computed.
+use Prim.Native.Nat.{ℕ, _^_, _≤_}
+use mathlib.Core.Path.{_≡_, refl, sym, ap, _∙_}
+use mathlib.Core.Bool.{Bool, true, false, not}
+use mathlib.Core.List.{List, [], _∷_}
+use native.Mathlib.Omega.{arith}
+use lib.Dec.{ltb, leb}
+use borrow.Author.Tests.{lt-ltb, le-ltb, leb-true, leb-false}
+use Rattle.laws.specs.Pick.{pick, both}
+use Rattle.laws.proofs.Pick.{split}
+use Rattle.slots.specs.Slots.{Slot, fits, those}
+use Rattle.counts.specs.declared.PacketNumber.{PacketNumber}
+use Rattle.utf8.specs.Utf8.{firstBad}
+use Rattle.text.specs.Octets.{needed}
+use Rattle.kinds.specs.declared.kind.Kind.{Kind}
+use Rattle.kinds.specs.declared.refusal.Refusal.{Refusal}
+use Rattle.kinds.specs.declared.refusal.Refusal.the-variants.{NumberTooLarge}
+use Rattle.kinds.specs.Fields.{Setting, fieldIn, valueIn, textIn, partOf, same, decided}
+use Rattle.kinds.specs.Layout.{Part, Row, Body, fixed, layout, slotsOf, parts}
+use Rattle.records.specs.declared.answers.Answer.the-variants as A
+use Rattle.records.specs.Settings.{tooLarge}
+use Rattle.standard.specs.Heads.{packetsOf}
+use Rattle.standard.specs.Walk.{walkOf}
+use Rattle.standard.specs.Words.{left, unchanged, missing, answerTo, actIn, setOn}
+use Rattle.filling.specs.Filling.{putIn, fillSeptets, areSeptets}
+use Rattle.filling.proofs.Puts.{putIns, inWord, ins-put}
+use Rattle.settings.specs.declared.target.Target.{Target}
+use Rattle.settings.specs.declared.target.Target.the-variants as T
+use Rattle.settings.specs.Target.{targetOf, settled}
+use Rattle.settings.specs.Fixed.{fitted, slotOn, septetsOn}
+use Rattle.settings.proofs.Left.{settled-refused, settled-own}
+use Rattle.settings.proofs.Owned.{everyKind, ownedBy, own-has, Own, set-refused, set-own}
+
+-- ---- how the code reaches each case
+module _ (status word at span v : ℕ) (ws : List ℕ) where
+  pub slot-refused : {r : Refusal} → targetOf status (walkOf ws 0) ≡ T.Refused r → slotOn status word at span v ws ≡ unchanged r ws
+  unfolding slotOn
+  slot-refused e = settled-refused _ ws e
+
+  module _ {n : PacketNumber} (e : targetOf status (walkOf ws 0) ≡ T.Packets n) where
+    pub slot-large : leb (2 ^ span) v ≡ true → slotOn status word at span v ws ≡ unchanged NumberTooLarge ws
+    unfolding slotOn
+    slot-large h = settled-own _ ws e ∙ rw (le-ltb v (2 ^ span) (leb-true (2 ^ span) v h))
+
+    pub slot-done : leb (2 ^ span) v ≡ false → slotOn status word at span v ws ≡ left A.Done (putIn word at span v ws)
+    unfolding slotOn
+    slot-done h = settled-own _ ws e ∙ rw (lt-ltb v (2 ^ span) (leb-false (2 ^ span) v h))
+
+module _ (status word octet : ℕ) (xs ws : List ℕ) where
+  pub septets-refused : {r : Refusal} → targetOf status (walkOf ws 0) ≡ T.Refused r → septetsOn status word octet xs ws ≡ unchanged r ws
+  unfolding septetsOn
+  septets-refused e = settled-refused _ ws e
+
+  module _ {n : PacketNumber} (e : targetOf status (walkOf ws 0) ≡ T.Packets n) where
+    pub septets-large : areSeptets xs ≡ false → septetsOn status word octet xs ws ≡ unchanged NumberTooLarge ws
+    unfolding septetsOn
+    septets-large h = settled-own _ ws e ∙ rw h
+
+    pub septets-set : areSeptets xs ≡ true → septetsOn status word octet xs ws ≡ left A.Done (fillSeptets word octet xs ws)
+    unfolding septetsOn
+    septets-set h = settled-own _ ws e ∙ rw h
+
+-- ---- what the table says of a setting and a kind, computed
+pub record Facts : Type 0 where
+  pub own : Bool
+  pub narrow : Bool
+  pub body : Body
+  pub slots : List (Slot Part)
+  pub text : List ℕ
+
+unfoldable pub facts : Kind → Setting → Facts
+unfolding layout those same decided partOf both everyKind ownedBy inWord
+facts k s =
+    record { own = ownedBy k s; narrow = inWord (slotsOf (fieldIn s) (layout k .fields)); body = layout k .body; slots = slotsOf (fieldIn s) (layout k .fields); text = textIn s }
+
+-- a field of this kind alone, without text, in these slots
+abbrev pub plain : Body → List (Slot Part) → Facts
+plain b t = record { own = true; narrow = true; body = b; slots = t; text = [] }
+
+-- refusals 11, 3 and 14 cannot come where no text is set
+plain-answer : (r : Row) (room : ℕ) (s : Setting) → missing r s ≡ false → textIn s ≡ [] → 1 ≤ room → answerTo r room s ≡ pick (tooLarge (r .fields) s) (A.Refused NumberTooLarge) A.Done
+unfolding answerTo needed firstBad
+plain-answer r room s m t h = rw (m, t, le-ltb room 1 h)
+
+module _ (k : Kind) (s : Setting) (b : Body) (t : List (Slot Part)) (f : facts k s ≡ plain b t) where
+  pub is-own : ownedBy k s ≡ true
+  unfolding facts
+  is-own = ap (λ (x : Facts). x .own) f
+
+  pub is-narrow : inWord t ≡ true
+  unfolding facts
+  is-narrow = ap inWord (sym (ap (λ (x : Facts). x .slots) f)) ∙ ap (λ (x : Facts). x .narrow) f
+
+  pub is-body : layout k .body ≡ b
+  unfolding facts
+  is-body = ap (λ (x : Facts). x .body) f
+
+  pub are-slots : slotsOf (fieldIn s) (layout k .fields) ≡ t
+  unfolding facts
+  are-slots = ap (λ (x : Facts). x .slots) f
+
+  no-text : textIn s ≡ []
+  unfolding facts
+  no-text = ap (λ (x : Facts). x .text) f
+
+  pub answer-is : (ws : List ℕ) (n : ℕ) → Own k n s ws → answerTo (layout k) (packetsOf ws) s ≡ pick (not (fits t (parts (λ f. valueIn s)))) (A.Refused NumberTooLarge) A.Done
+  answer-is ws n o =
+      plain-answer (layout k) (packetsOf ws) s (own-has k s is-own) no-text (omega (arith, o .some, o .most)) ∙ ap (λ (x : List (Slot Part)). pick (not (fits x (parts (λ f. valueIn s)))) (A.Refused NumberTooLarge) A.Done) are-slots
+
+-- ---- such a setting of a fixed kind: refused by its target, or for a number, or the numbers are put into its slots
+module _ (k : Kind) (s : Setting) (t : List (Slot Part)) (f : facts k s ≡ plain fixed t) (ws : List ℕ) where
+  own-fixed : (n : ℕ) → Own k n s ws → setOn s ws ≡ fitted (fits t (parts (λ f. valueIn s))) (putIns t (parts (λ f. valueIn s)) ws) ws
+  unfolding actIn
+  own-fixed n o =
+      o .set ∙ split (fits t (parts (λ f. valueIn s)))
+      (λ e. rw (answer-is k s fixed t f ws n o, e, is-body k s fixed t f, are-slots k s fixed t f) (ap (left A.Done) (sym (ins-put t _ ws (is-narrow k s fixed t f) e))))
+      (λ e. rw (answer-is k s fixed t f ws n o, e))
+
+  set-fixed : (x : Target) → targetOf (layout k .status) (walkOf ws 0) ≡ x → setOn s ws ≡ settled x (λ n. fitted (fits t (parts (λ f. valueIn s))) (putIns t (parts (λ f. valueIn s)) ws) ws) ws
+  set-fixed (T.Refused r) e = set-refused k s (is-own k s fixed t f) ws e
+  set-fixed (T.Packets n) e = own-fixed (n .0) (set-own k s (is-own k s fixed t f) ws e)
+
+  -- the numbers as septets
+  pub set-septets : (word octet : ℕ) (xs : List ℕ) → fits t (parts (λ f. valueIn s)) ≡ areSeptets xs → putIns t (parts (λ f. valueIn s)) ws ≡ fillSeptets word octet xs ws → setOn s ws ≡ septetsOn (layout k .status) word octet xs ws
+  unfolding septetsOn
+  set-septets word octet xs a p = rw (← a, ← p) (set-fixed _ refl)
+
+-- one number in one slot
+abbrev pub one : Setting → ℕ → ℕ → ℕ → List (Slot Part)
+one s word at span = record { word = word; at = at; span = span; key = record { field = fieldIn s; index = 0 } } ∷ []
+
+alone : (t : Bool) → both t true ≡ t
+unfolding both
+alone true = refl
+alone false = refl
+
+pub set-slot : (k : Kind) (s : Setting) (word at span v : ℕ) → facts k s ≡ plain fixed (one s word at span) → partOf (fieldIn s) (valueIn s) 0 ≡ v → (ws : List ℕ) → setOn s ws ≡ slotOn (layout k .status) word at span v ws
+unfolding slotOn fits putIns
+set-slot k s word at span v f e ws = rw (← e, ← alone (ltb (partOf (fieldIn s) (valueIn s) 0) (2 ^ span))) (set-fixed k s (one s word at span) f ws _ refl)

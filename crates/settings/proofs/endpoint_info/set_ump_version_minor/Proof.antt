@@ -1,0 +1,20 @@
+use mathlib.Core.Path.{refl}
+use Rattle.kinds.specs.declared.kind.Kind.the-variants as K
+use Rattle.settings.proofs.Left.{said-as}
+use Rattle.settings.proofs.Slots.{facts, set-slot}
+use borrow.Author.Needs.{needs}
+use Rattle.settings.proofs.endpoint_info.set_ump_version_minor.Statement.{statement}
+use Rattle.settings.proofs.endpoint_info.set_ump_version_minor.Tie as tie
+
+set-slot-requires : tie.Need-set-slot-requires
+set-slot-requires c κs = search needs
+
+same-length : tie.Need-same-length
+same-length c = search needs
+
+returns : tie.Need-returns
+unfolding facts
+returns c = said-as (set-slot K.EndpointInfo _ _ _ _ _ refl refl _) (c .before .before .set-slot .ensures)
+
+pub set-ump-version-minor-spec : {M : Type 1} → statement M
+set-ump-version-minor-spec = tie.close (tie.spec set-slot-requires same-length returns)

@@ -1,0 +1,41 @@
+// Settings of device identity, status 0x02, on words.
+//
+// word 1: device_manufacturer octets 1, 2, 3
+// word 2: device_family octets 0, 1, device_family_model_number octets 2, 3, the low seven bits first
+// word 3: software_version octets 0, 1, 2, 3
+// Seven low bits of each octet.
+ghost use mathlib.Core.Path.{_≡_};
+ghost use Rattle.kinds.specs.Fields.{Pair, Setting};
+ghost use Rattle.standard.specs.Words.{setOn};
+use crate::fixed::set_septets;
+use records::answers::Answer;
+
+const STATUS: u32 = 0x02;
+
+pub fn set_device_manufacturer(words: &mut [u32], a: u32, b: u32, c: u32) -> Answer
+    ensures answer { λ r. ⌜ r ≡ setOn (Setting.device-manufacturer a b c) (now (words .entry)) .answer ⌝ }
+    ensures buffer { λ r. ⌜ now (words .exit) ≡ setOn (Setting.device-manufacturer a b c) (now (words .entry)) .words ⌝ }
+{
+    set_septets(words, STATUS, 1, 1, &[a, b, c])
+}
+
+pub fn set_device_family(words: &mut [u32], family: u32) -> Answer
+    ensures answer { λ r. ⌜ r ≡ setOn (Setting.pair Pair.device-family family) (now (words .entry)) .answer ⌝ }
+    ensures buffer { λ r. ⌜ now (words .exit) ≡ setOn (Setting.pair Pair.device-family family) (now (words .entry)) .words ⌝ }
+{
+    set_septets(words, STATUS, 2, 0, &[family % 128, family / 128])
+}
+
+pub fn set_device_family_model_number(words: &mut [u32], model: u32) -> Answer
+    ensures answer { λ r. ⌜ r ≡ setOn (Setting.pair Pair.device-family-model-number model) (now (words .entry)) .answer ⌝ }
+    ensures buffer { λ r. ⌜ now (words .exit) ≡ setOn (Setting.pair Pair.device-family-model-number model) (now (words .entry)) .words ⌝ }
+{
+    set_septets(words, STATUS, 2, 2, &[model % 128, model / 128])
+}
+
+pub fn set_software_version(words: &mut [u32], a: u32, b: u32, c: u32, d: u32) -> Answer
+    ensures answer { λ r. ⌜ r ≡ setOn (Setting.software-version a b c d) (now (words .entry)) .answer ⌝ }
+    ensures buffer { λ r. ⌜ now (words .exit) ≡ setOn (Setting.software-version a b c d) (now (words .entry)) .words ⌝ }
+{
+    set_septets(words, STATUS, 3, 0, &[a, b, c, d])
+}

@@ -1,0 +1,8 @@
+// Settings on the message at the start of any slice of words, a file a kind.
+pub mod choices;
+pub mod device_identity;
+pub mod endpoint_discovery;
+pub mod endpoint_info;
+pub mod fixed;
+pub mod function_block_info;
+pub mod target;
