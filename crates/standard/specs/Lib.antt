@@ -7,3 +7,4 @@ pub mod Place
 pub mod Words
 pub mod Lists
 pub mod Cases
+pub mod Said
