@@ -1,6 +1,6 @@
 // Runs stored inputs through the listing, and prints each listing. Standard input has each case as the count of its bytes in
 // thirty-two bits, big-endian, and then the bytes. The cases and their listings come from an independent reading of document 01;
-// the last two are 32,768 bytes and one more.
+// the last are 32,768 bytes, one more, every kind, every other type, and every refusal that a walk gives.
 ghost use Prim.Native.Nat.{_<_};
 use libc::STDIN_FILENO;
 use libc::STDOUT_FILENO;
