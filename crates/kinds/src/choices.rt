@@ -1,4 +1,6 @@
-// The named choices of a function block, and the format of a packet.
+// The named choices of a function block and the format of a packet, with their codes.
+ghost use mathlib.Core.Path.{_≡_};
+ghost use Rattle.kinds.specs.Choices.{hintCode, portCode, directionCode, formatCode};
 
 pub enum UiHint {
     Undeclared,
@@ -24,4 +26,46 @@ pub enum Format {
     Start,
     Continue,
     End,
+}
+
+pub fn hint_code(hint: UiHint) -> u32
+    ensures { λ r. ⌜ r ≡ hintCode hint ⌝ }
+{
+    match hint {
+        UiHint::Undeclared => 0,
+        UiHint::Receiver => 1,
+        UiHint::Sender => 2,
+        UiHint::SenderReceiver => 3,
+    }
+}
+
+pub fn port_code(port: Midi1Port) -> u32
+    ensures { λ r. ⌜ r ≡ portCode port ⌝ }
+{
+    match port {
+        Midi1Port::None => 0,
+        Midi1Port::DontRestrictBandwidth => 1,
+        Midi1Port::RestrictBandwidth => 2,
+    }
+}
+
+pub fn direction_code(direction: Direction) -> u32
+    ensures { λ r. ⌜ r ≡ directionCode direction ⌝ }
+{
+    match direction {
+        Direction::Input => 1,
+        Direction::Output => 2,
+        Direction::Bidirectional => 3,
+    }
+}
+
+pub fn format_code(format: Format) -> u32
+    ensures { λ r. ⌜ r ≡ formatCode format ⌝ }
+{
+    match format {
+        Format::Complete => 0,
+        Format::Start => 1,
+        Format::Continue => 2,
+        Format::End => 3,
+    }
 }

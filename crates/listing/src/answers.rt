@@ -7,11 +7,11 @@ ghost use Rattle.walking.specs.Visits.{nextOf};
 ghost use Rattle.lines.specs.Page.{Wrote};
 ghost use Rattle.listing.specs.Lines.{otherShown, refusalShown, answerShown, lineOf, endLine};
 ghost use Rattle.listing.specs.Listing.{linesOf};
-use crate::codes::refusal_number;
-use crate::codes::refusal_place;
 use crate::messages::put_message;
 use counts::WordNumber;
 use kinds::refusal::Refusal;
+use kinds::refusal::refusal_number;
+use kinds::refusal::refusal_place;
 use records::answers::Walked;
 
 fn put_other(out: &mut [u8], at: usize, ump_type: u32, size: WordNumber) -> usize
@@ -24,7 +24,10 @@ fn put_other(out: &mut [u8], at: usize, ump_type: u32, size: WordNumber) -> usiz
 pub(crate) fn put_refusal(out: &mut [u8], at: usize, refusal: Refusal) -> usize
     ensures { λ r. ⌜ Wrote at (now (out .entry)) (refusalShown refusal) r (now (out .exit)) ⌝ }
 {
-    let ns = [refusal_number(refusal), refusal_place(refusal) as u64];
+    let ns = [
+        refusal_number(refusal) as u64,
+        refusal_place(refusal) as u64,
+    ];
     lines::put_named(out, at, b" refused", &ns)
 }
 

@@ -10,11 +10,11 @@ ghost use Rattle.lines.specs.Ascii.{ascii};
 ghost use Rattle.lines.specs.Page.{Wrote};
 ghost use Rattle.lines.specs.Numbers.{numbers, shown};
 ghost use Rattle.listing.specs.Lines.{messageShown};
-use crate::codes::direction_code;
 use crate::codes::flag;
-use crate::codes::hint_code;
-use crate::codes::port_code;
 use crate::shown::put_shown;
+use kinds::choices::direction_code;
+use kinds::choices::hint_code;
+use kinds::choices::port_code;
 use records::device_identity::DeviceIdentity;
 use records::endpoint_discovery::EndpointDiscovery;
 use records::endpoint_info::EndpointInfo;
@@ -82,9 +82,9 @@ fn put_function_block_info(out: &mut [u8], at: usize, e: FunctionBlockInfo) -> u
         1,
         flag(e.active),
         e.function_block_number as u64,
-        hint_code(hint),
-        port_code(port),
-        direction_code(direction),
+        hint_code(hint) as u64,
+        port_code(port) as u64,
+        direction_code(direction) as u64,
         e.first_group as u64,
         e.number_of_groups_spanned as u64,
         e.midi_ci_version as u64,

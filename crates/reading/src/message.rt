@@ -41,7 +41,7 @@ pub fn most_packets(kind: Kind) -> usize
 fn read_text(words: &[u32], offset: usize, message: Message) -> Read
     ensures { λ r. ⌜ r ≡ textRead (now (words .entry)) offset message ⌝ }
 {
-    match text_check::check_text(words, offset) {
+    match fast_text::check_text(words, offset) {
         Utf8::Good => Read::Message(message),
         Utf8::BadAt(_) => Read::Refused(Refusal::NotUtf8),
     }

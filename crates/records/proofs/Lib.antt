@@ -3,3 +3,4 @@ pub mod Settings
 pub mod Homes
 pub mod Others
 pub mod Promises
+pub mod Numbers

@@ -5,13 +5,13 @@
 ghost use mathlib.Core.Path.{_≡_};
 ghost use Rattle.kinds.specs.Fields.{Flag, Number, Setting};
 ghost use Rattle.standard.specs.Words.{setOn};
-use crate::choices::direction_code;
-use crate::choices::hint_code;
-use crate::choices::port_code;
 use crate::fixed::set_slot;
 use kinds::choices::Direction;
 use kinds::choices::Midi1Port;
 use kinds::choices::UiHint;
+use kinds::choices::direction_code;
+use kinds::choices::hint_code;
+use kinds::choices::port_code;
 use records::answers::Answer;
 
 const STATUS: u32 = 0x11;

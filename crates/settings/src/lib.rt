@@ -1,5 +1,4 @@
 // Settings on the message at the start of any slice of words, a file a kind.
-pub mod choices;
 pub mod device_identity;
 pub mod endpoint_discovery;
 pub mod endpoint_info;

@@ -1,8 +1,5 @@
 // What a setting finds at word position 0: a message of its kind, or why it is refused.
 ghost use mathlib.Core.Path.{_≡_};
-ghost use Rattle.counts.specs.Counts.{packet};
-ghost use Rattle.kinds.specs.Layout.{layout};
-ghost use Rattle.records.specs.Records.{kindIn, packetsIn};
 ghost use Rattle.standard.specs.Walk.{walkOf};
 ghost use Rattle.settings.specs.Target.{ownIn, targetOf};
 use counts::PacketNumber;
@@ -10,47 +7,13 @@ use counts::WordNumber;
 use kinds::refusal::Refusal;
 use records::answers::Walked;
 use records::message::Message;
+use records::message::packets_in;
+use records::message::status_in;
 
 pub enum Target {
     // So many packets of the setting's kind.
     Packets(PacketNumber),
     Refused(Refusal),
-}
-
-// The status of a record's kind.
-pub fn status_in(message: Message) -> u32
-    ensures { λ r. ⌜ r ≡ layout (kindIn message) .status ⌝ }
-{
-    match message {
-        Message::EndpointDiscovery(_) => 0x00,
-        Message::EndpointInfo(_) => 0x01,
-        Message::DeviceIdentity(_) => 0x02,
-        Message::EndpointName(_) => 0x03,
-        Message::ProductInstanceId(_) => 0x04,
-        Message::FunctionBlockInfo(_) => 0x11,
-        Message::FunctionBlockName {
-            function_block: _,
-            packets: _,
-        } => 0x12,
-    }
-}
-
-// A record's packets.
-pub fn packets_in(message: Message) -> PacketNumber
-    ensures { λ r. ⌜ r ≡ packet (packetsIn message) ⌝ }
-{
-    match message {
-        Message::EndpointName(packets) => packets,
-        Message::ProductInstanceId(packets) => packets,
-        Message::FunctionBlockName {
-            function_block: _,
-            packets,
-        } => packets,
-        Message::EndpointDiscovery(_) => PacketNumber(1),
-        Message::EndpointInfo(_) => PacketNumber(1),
-        Message::DeviceIdentity(_) => PacketNumber(1),
-        Message::FunctionBlockInfo(_) => PacketNumber(1),
-    }
 }
 
 // A record as the target of a setting of the kind with this status.

@@ -5,6 +5,9 @@ use Rattle.listing.proofs.answers.put_refusal.Tie as tie
 refusal-number-requires : tie.Need-refusal-number-requires
 refusal-number-requires c κs = search needs
 
+cast-t7 : tie.Need-cast-t7
+cast-t7 c = search needs
+
 refusal-place-requires : tie.Need-refusal-place-requires
 refusal-place-requires c κs = search needs
 
@@ -28,6 +31,7 @@ put-refusal-spec =
     tie.close
     (tie.spec
     refusal-number-requires
+    cast-t7
     refusal-place-requires
     slice-aggregate-put-named
     slice-aggregate-put-named-2

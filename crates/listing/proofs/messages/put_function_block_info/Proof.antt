@@ -13,23 +13,32 @@ cast-t10 c = search needs
 hint-code-requires : tie.Need-hint-code-requires
 hint-code-requires c κs = search needs
 
+cast-t12 : tie.Need-cast-t12
+cast-t12 c = search needs
+
 port-code-requires : tie.Need-port-code-requires
 port-code-requires c κs = search needs
-
-direction-code-requires : tie.Need-direction-code-requires
-direction-code-requires c κs = search needs
 
 cast-t14 : tie.Need-cast-t14
 cast-t14 c = search needs
 
-cast-t15 : tie.Need-cast-t15
-cast-t15 c = search needs
+direction-code-requires : tie.Need-direction-code-requires
+direction-code-requires c κs = search needs
 
 cast-t16 : tie.Need-cast-t16
 cast-t16 c = search needs
 
 cast-t17 : tie.Need-cast-t17
 cast-t17 c = search needs
+
+cast-t18 : tie.Need-cast-t18
+cast-t18 c = search needs
+
+cast-t19 : tie.Need-cast-t19
+cast-t19 c = search needs
+
+cast-t20 : tie.Need-cast-t20
+cast-t20 c = search needs
 
 slice-aggregate-put-named : tie.Need-slice-aggregate-put-named
 slice-aggregate-put-named c = search needs
@@ -54,12 +63,15 @@ put-function-block-info-spec =
     flag-requires
     cast-t10
     hint-code-requires
+    cast-t12
     port-code-requires
-    direction-code-requires
     cast-t14
-    cast-t15
+    direction-code-requires
     cast-t16
     cast-t17
+    cast-t18
+    cast-t19
+    cast-t20
     slice-aggregate-put-named
     slice-aggregate-put-named-2
     put-named-requires

@@ -1,7 +1,7 @@
 use Rattle.kinds.specs.Layout.{layout}
 use borrow.Author.Needs.{needs}
-use Rattle.settings.proofs.target.status_in.Statement.{statement}
-use Rattle.settings.proofs.target.status_in.Tie as tie
+use Rattle.records.proofs.message.status_in.Statement.{statement}
+use Rattle.records.proofs.message.status_in.Tie as tie
 
 enum-told : tie.Need-enum-told
 enum-told c = search needs

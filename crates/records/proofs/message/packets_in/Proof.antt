@@ -1,6 +1,6 @@
 use borrow.Author.Needs.{needs}
-use Rattle.settings.proofs.target.packets_in.Statement.{statement}
-use Rattle.settings.proofs.target.packets_in.Tie as tie
+use Rattle.records.proofs.message.packets_in.Statement.{statement}
+use Rattle.records.proofs.message.packets_in.Tie as tie
 
 enum-known-message : tie.Need-enum-known-message
 enum-known-message c = search needs

@@ -1,0 +1,203 @@
+-- A step of the numbers is a step of what is due. Closed by a computed test of the 9 states at each of the 256 bytes.
+use Prim.Native.Nat.{ℕ, zero, suc, _*_, _/_, _%_, _≤_, _<_}
+use mathlib.Core.Path.{_≡_, refl, sym, ap, ap₂, subst, _∙_}
+use mathlib.Core.Bool.{Bool, true, false, _&&_}
+use mathlib.Core.Option.{none, some}
+use mathlib.Core.List.{List, [], _∷_}
+use native.Mathlib.Omega.{arith}
+use lib.Dec.{T, eqb, eqb→eq, eqb·suc-zero, ltb, ltb→lt}
+use lib.ListN.{getD}
+use Rattle.laws.specs.Pick.{pick}
+use Rattle.laws.proofs.Bytes.{eachBelow, at, and-left, and-right}
+use Rattle.utf8.specs.Utf8.{Range, _‥_, tail, after}
+use Rattle.text.specs.Octets.{octetOf}
+use Rattle.fast_text.specs.Fast.{rowOf, stepOf, plainOf, givenOf}
+use Rattle.fast_text.proofs.Due.{Due, ready, nextDue, isReady}
+
+-- ---- the states: 6 k stands for what is due at k, and 48 for bad text
+
+pub dues : List Due
+dues =
+    some []
+    ∷ some (tail ∷ [])
+    ∷ some (tail ∷ tail ∷ [])
+    ∷ some (tail ∷ tail ∷ tail ∷ [])
+    ∷ some (0xA0 ‥ 0xBF ∷ tail ∷ [])
+    ∷ some (0x80 ‥ 0x9F ∷ tail ∷ [])
+    ∷ some (0x90 ‥ 0xBF ∷ tail ∷ tail ∷ [])
+    ∷ some (0x80 ‥ 0x8F ∷ tail ∷ tail ∷ [])
+    ∷ []
+
+pub dueAt : ℕ → Due
+dueAt s = getD dues (s / 6) none
+
+-- a number that stands for a state
+pub record Code (s : ℕ) : Type 0 where
+  pub sixes : s % 6 ≡ 0
+  pub below : s < 54
+
+pub code-zero : Code 0
+code-zero = record { sixes = refl; below = omega arith }
+
+pub due-zero : dueAt 0 ≡ ready
+unfolding dueAt dues
+due-zero = refl
+
+pub due-bad : dueAt 48 ≡ none
+unfolding dueAt dues
+due-bad = refl
+
+-- what holds of the nine states holds of a number that stands for one
+by-code : (P : ℕ → Type 0) → ((k : ℕ) → k < 9 → P (6 * k)) → (s : ℕ) → Code s → P s
+by-code P h s c =
+    let e : 6 * (s / 6) ≡ s = omega (arith, c .sixes) in
+    subst P e (h (s / 6) (omega (arith, c .below)))
+
+-- ---- whether the same is due
+
+same-ranges : List Range → List Range → Bool
+same-ranges [] [] = true
+same-ranges [] (d ∷ ds) = false
+same-ranges (c ∷ cs) [] = false
+same-ranges ((a ‥ b) ∷ cs) ((e ‥ f) ∷ ds) = (eqb a e && eqb b f) && same-ranges cs ds
+
+ranges-eq : (cs ds : List Range) → T (same-ranges cs ds) → cs ≡ ds
+unfolding same-ranges
+ranges-eq [] [] t = refl
+ranges-eq [] (d ∷ ds) t = absurd t
+ranges-eq (c ∷ cs) [] t = absurd t
+ranges-eq ((a ‥ b) ∷ cs) ((e ‥ f) ∷ ds) t =
+    let h = and-left (eqb a e && eqb b f) (same-ranges cs ds) t in
+    ap₂ (λ (r : Range) (l : List Range). r ∷ l)
+    (ap₂ (λ (x y : ℕ). x ‥ y) (eqb→eq a e (and-left (eqb a e) (eqb b f) h)) (eqb→eq b f (and-right (eqb a e) (eqb b f) h)))
+    (ranges-eq cs ds (and-right (eqb a e && eqb b f) (same-ranges cs ds) t))
+
+same : Due → Due → Bool
+same none none = true
+same none (some ds) = false
+same (some cs) none = false
+same (some cs) (some ds) = same-ranges cs ds
+
+same-eq : (o p : Due) → T (same o p) → o ≡ p
+unfolding same
+same-eq none none t = refl
+same-eq none (some ds) t = absurd t
+same-eq (some cs) none t = absurd t
+same-eq (some cs) (some ds) t = ap some (ranges-eq cs ds t)
+
+-- ---- a step, zeros dropped
+
+-- what is due after a byte of which zeros are dropped
+abbrev pub readDue : Due → ℕ → Due
+readDue o b = pick (eqb b 0) o (nextDue o b)
+
+-- the step from state k leads to a state, and to what is due next
+step-test : ℕ → ℕ → Bool
+step-test b k = (eqb (stepOf (6 * k) b % 6) 0 && ltb (stepOf (6 * k) b) 54) && same (dueAt (stepOf (6 * k) b)) (readDue (dueAt (6 * k)) b)
+
+step-tests : ℕ → Bool
+step-tests b = eachBelow (step-test b) 9
+
+all-steps : T (eachBelow step-tests 256)
+unfolding step-tests step-test stepOf rowOf dueAt dues same same-ranges after
+all-steps = tt
+
+pub record Next (s b : ℕ) : Type 0 where
+  pub code : Code (stepOf s b)
+  pub due : dueAt (stepOf s b) ≡ readDue (dueAt s) b
+
+next-six : (k b : ℕ) → k < 9 → b < 256 → Next (6 * k) b
+unfolding step-tests step-test
+next-six k b h l =
+    let r = stepOf (6 * k) b in
+    let t = at (step-test b) 9 (at step-tests 256 all-steps b l) k h in
+    let u = and-left (eqb (r % 6) 0 && ltb r 54) (same (dueAt r) (readDue (dueAt (6 * k)) b)) t in
+    record {
+      code = record {
+        sixes = eqb→eq (r % 6) 0 (and-left (eqb (r % 6) 0) (ltb r 54) u);
+        below = ltb→lt r 54 (and-right (eqb (r % 6) 0) (ltb r 54) u);
+      };
+      due = same-eq (dueAt r) (readDue (dueAt (6 * k)) b) (and-right (eqb (r % 6) 0 && ltb r 54) (same (dueAt r) (readDue (dueAt (6 * k)) b)) t);
+    }
+
+pub next-law : (s b : ℕ) → Code s → b < 256 → Next s b
+next-law s b c l = by-code (λ m. Next m b) (λ k h. next-six k b h l) s c
+
+-- no character is open at 0, and at no other state
+pub ready-law : (s : ℕ) → Code s → isReady (dueAt s) ≡ eqb s 0
+unfolding dueAt dues
+ready-law s c = by-code (λ m. isReady (dueAt m) ≡ eqb m 0) go s c
+  where
+    go : (k : ℕ) → k < 9 → isReady (dueAt (6 * k)) ≡ eqb (6 * k) 0
+    go zero h = refl
+    go (suc zero) h = refl
+    go (suc (suc zero)) h = refl
+    go (suc (suc (suc zero))) h = refl
+    go (suc (suc (suc (suc zero)))) h = refl
+    go (suc (suc (suc (suc (suc zero))))) h = refl
+    go (suc (suc (suc (suc (suc (suc zero)))))) h = refl
+    go (suc (suc (suc (suc (suc (suc (suc zero))))))) h = refl
+    go (suc (suc (suc (suc (suc (suc (suc (suc k)))))))) h = let z : k ≡ 0 = omega arith in rw z
+
+-- ---- a step, nothing dropped
+
+-- nothing that is due is 0 or 1
+zero-test : ℕ → Bool
+zero-test k = same (nextDue (dueAt (6 * k)) 1) (nextDue (dueAt (6 * k)) 0)
+
+zero-six : (k : ℕ) → k < 9 → nextDue (dueAt (6 * k)) 1 ≡ nextDue (dueAt (6 * k)) 0
+unfolding zero-test dueAt dues same same-ranges after
+zero-six k h = same-eq (nextDue (dueAt (6 * k)) 1) (nextDue (dueAt (6 * k)) 0) (at zero-test 9 tt k h)
+
+zero-due : (s : ℕ) → Code s → nextDue (dueAt s) 1 ≡ nextDue (dueAt s) 0
+zero-due s c = by-code (λ m. nextDue (dueAt m) 1 ≡ nextDue (dueAt m) 0) zero-six s c
+
+pub record NextGiven (s b : ℕ) : Type 0 where
+  pub code : Code (givenOf s b)
+  pub due : dueAt (givenOf s b) ≡ nextDue (dueAt s) b
+
+pub given-law : (s b : ℕ) → Code s → b < 256 → NextGiven s b
+unfolding givenOf
+given-law s zero c l = let n = next-law s 1 c (omega arith) in record { code = n .code; due = n .due ∙ zero-due s c }
+given-law s (suc b) c l =
+    let n = next-law s (suc b) c l in
+    record { code = rw eqb·suc-zero (n .code); due = rw eqb·suc-zero (rw eqb·suc-zero at (n .due)) }
+
+-- ---- plain bytes leave the state in which no character is open
+
+plain-test : ℕ → Bool
+plain-test b = eqb (stepOf 0 b) 0
+
+pub plain-step : (b : ℕ) → T (ltb b 128) → stepOf 0 b ≡ 0
+unfolding plain-test stepOf rowOf
+plain-step b h = eqb→eq (stepOf 0 b) 0 (at plain-test 128 tt b (ltb→lt b 128 h))
+
+pub plain-octets : (w : ℕ) → plainOf w ≡ true → T (ltb (octetOf w 0) 128) × T (ltb (octetOf w 1) 128) × T (ltb (octetOf w 2) 128) × T (ltb (octetOf w 3) 128)
+unfolding plainOf
+plain-octets w e =
+    let t = subst T (sym e) tt in
+    let f = ltb (octetOf w 0) 128 in
+    let g = ltb (octetOf w 1) 128 in
+    let h = ltb (octetOf w 2) 128 in
+    let i = ltb (octetOf w 3) 128 in
+    let u = and-right f (g && (h && i)) t in
+    let v = and-right g (h && i) u in
+    (and-left f (g && (h && i)) t, and-left g (h && i) u, and-left h i v, and-right h i v)
+
+pub plain-given : (b : ℕ) → T (ltb b 128) → givenOf 0 b ≡ 0
+unfolding givenOf
+plain-given b h = go (eqb b 0)
+  where
+    go : (t : Bool) → stepOf 0 (pick t 1 b) ≡ 0
+    go true = plain-step 1 tt
+    go false = plain-step b h
+
+-- ---- a number that is none of the first k, as the last arm of a match knows it
+
+abbrev pub Missed : ℕ → ℕ → Type 0
+Missed zero n = Unit
+Missed (suc k) n = Missed k n × (n ≡ k → ⊥)
+
+pub missed : (k n : ℕ) → Missed k n → k ≤ n
+missed zero n m = omega arith
+missed (suc k) n m = let h = missed k n (m .0) in let d = m .1 in omega arith

@@ -1,0 +1,5 @@
+pub mod Due
+pub mod Codes
+pub mod Stands
+pub mod Shown
+pub mod Given

@@ -1,0 +1,99 @@
+-- The numbers that the fast check steps through, and which octets of a packet's words it looks at.
+use Prim.Native.Nat.{ℕ, _-_, _*_, _/_, _%_, _^_}
+use mathlib.Core.Bool.{Bool, true, false, _&&_}
+use mathlib.Core.List.{List, [], _∷_}
+use lib.Dec.{eqb, ltb}
+use lib.ListN.{getD}
+use Rattle.laws.specs.Pick.{pick}
+use Rattle.utf8.specs.declared.Utf8.{Utf8}
+use Rattle.utf8.specs.declared.Utf8.the-variants.{Good, BadAt}
+use Rattle.text.specs.Octets.{octetOf}
+
+-- a verdict without its place
+abbrev pub isGood : Utf8 → Bool
+isGood Good = true
+isGood (BadAt n) = false
+
+-- ---- a byte more
+
+-- the classes of the bytes, a digit for each, sixteen to a number; the last sixteen stand in `classesOf`
+abbrev pub class-list : List ℕ
+class-list =
+    0x1111111111111110
+    ∷ 0x1111111111111111
+    ∷ 0x1111111111111111
+    ∷ 0x1111111111111111
+    ∷ 0x1111111111111111
+    ∷ 0x1111111111111111
+    ∷ 0x1111111111111111
+    ∷ 0x1111111111111111
+    ∷ 0x2222222222222222
+    ∷ 0x3333333333333333
+    ∷ 0x4444444444444444
+    ∷ 0x4444444444444444
+    ∷ 0x6666666666666655
+    ∷ 0x6666666666666666
+    ∷ 0x8898888888888887
+    ∷ []
+
+abbrev pub classesOf : ℕ → ℕ
+classesOf h = getD class-list h 0x55555555555cbbba
+
+-- where a class leads from each state, six bits for each; no byte has one of the last three classes
+abbrev pub move-list : List ℕ
+move-list =
+    0x30aa479848c180
+    ∷ 0x30c30c30c30c00
+    ∷ 0x303301b0306030
+    ∷ 0x30c0c1b0306030
+    ∷ 0x30c0cc06306030
+    ∷ 0x30c30c30c30c30
+    ∷ 0x30c30c30c30c06
+    ∷ 0x30c30c30c30c18
+    ∷ 0x30c30c30c30c0c
+    ∷ 0x30c30c30c30c1e
+    ∷ 0x30c30c30c30c24
+    ∷ 0x30c30c30c30c12
+    ∷ 0x30c30c30c30c2a
+    ∷ 0x30c30c30c30c30
+    ∷ 0x30c30c30c30c30
+    ∷ []
+
+abbrev pub movesOf : ℕ → ℕ
+movesOf k = getD move-list k 0x30c30c30c30c30
+
+-- where a byte leads from each state
+unfoldable pub rowOf : ℕ → ℕ
+rowOf b = movesOf (classesOf (b / 16) / 2 ^ (b % 16 * 4) % 16)
+
+-- the state after a byte
+unfoldable pub stepOf : ℕ → ℕ → ℕ
+stepOf s b = rowOf b / 2 ^ s % 64
+
+-- ---- a word more
+
+-- the state after the octets of a word
+abbrev pub fourOf : ℕ → ℕ → ℕ
+fourOf s w = stepOf (stepOf (stepOf (stepOf s (octetOf w 0)) (octetOf w 1)) (octetOf w 2)) (octetOf w 3)
+
+-- all four octets are below 128
+unfoldable pub plainOf : ℕ → Bool
+plainOf w = ltb (octetOf w 0) 128 && (ltb (octetOf w 1) 128 && (ltb (octetOf w 2) 128 && ltb (octetOf w 3) 128))
+
+-- the bits of the last n octets of a word that has four
+unfoldable pub bitsOf : ℕ → ℕ
+bitsOf n = pick (ltb n 4) (n * 8) 32
+
+-- the mask of as many octets as end is above offset
+unfoldable pub maskOf : ℕ → ℕ → ℕ
+maskOf end offset = 2 ^ bitsOf (end - offset) - 1
+
+-- ---- a text as it is given, where a zero byte is a character
+
+-- the state after a byte: after a zero it is that after any other ASCII byte
+unfoldable pub givenOf : ℕ → ℕ → ℕ
+givenOf s b = stepOf s (pick (eqb b 0) 1 b)
+
+-- the state after the octets of a word
+abbrev pub fourGiven : ℕ → ℕ → ℕ
+fourGiven s w = givenOf (givenOf (givenOf (givenOf s (octetOf w 0)) (octetOf w 1)) (octetOf w 2)) (octetOf w 3)

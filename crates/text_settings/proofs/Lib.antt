@@ -1,0 +1,3 @@
+pub mod Plans
+pub mod Rows
+pub mod Heads

@@ -1,0 +1,102 @@
+-- The packets that a text needs as the code counts them, and how the code reaches each case of a setting. Closed by division with remainder and the tests that lead there.
+use Prim.Native.Nat.{ℕ, _+_, _-_, _/_, _^_, _<_, _≤_}
+use mathlib.Core.Path.{_≡_, _∙_}
+use mathlib.Core.Bool.{true, false}
+use mathlib.Core.List.{List}
+use native.Mathlib.Omega.{arith}
+use native.Mathlib.Nat.{div-zero, div-le-self, add-div-right}
+use lib.ListN.{length}
+use lib.Dec.{leb}
+use borrow.Author.Tests.{lt-ltb, le-ltb, eq-eqb, ne-eqb, leb-true, leb-false}
+use Rattle.counts.specs.Counts.{packet}
+use Rattle.counts.specs.declared.PacketNumber.{PacketNumber}
+use Rattle.counts.specs.declared.TextByteNumber.{TextByteNumber}
+use Rattle.utf8.specs.Utf8.{firstBad}
+use Rattle.utf8.specs.declared.Utf8.the-variants.{Good, BadAt}
+use Rattle.text.specs.Octets.{needed}
+use Rattle.kinds.specs.declared.refusal.Refusal.{Refusal}
+use Rattle.kinds.specs.declared.refusal.Refusal.the-variants.{TooManyPackets, NotUtf8, NumberTooLarge, NoRoom}
+use Rattle.records.specs.declared.answers.Answer.the-variants as A
+use Rattle.standard.specs.Heads.{packetsOf}
+use Rattle.standard.specs.Walk.{walkOf}
+use Rattle.standard.specs.Words.{left, unchanged}
+use Rattle.filling.specs.Filling.{putEach, fillText}
+use Rattle.settings.specs.declared.target.Target.the-variants as T
+use Rattle.settings.specs.Target.{targetOf}
+use Rattle.settings.proofs.Left.{settled-refused, settled-own}
+use Rattle.text_settings.specs.declared.texts.Plan.the-variants as P
+use Rattle.text_settings.specs.Texts.{roomOf, planOf, textOn, eachOn}
+
+-- ---- the packets needed
+module _ (cap bytes : ℕ) where
+  pub needed-none : bytes ≡ 0 → packet 1 ≡ packet (needed cap bytes)
+  unfolding needed
+  needed-none e = rw (eq-eqb bytes 0 e)
+
+  pub needed-without : (bytes ≡ 0 → ⊥) → cap ≡ 0 → packet 0 ≡ packet (needed cap bytes)
+  unfolding needed
+  needed-without n e = rw (ne-eqb bytes 0 n, e, div-zero (bytes + (0 - 1)))
+
+  pub needed-last : (bytes ≡ 0 → ⊥) → (cap ≡ 0 → ⊥) → packet ((bytes - 1) / cap + 1) ≡ packet (needed cap bytes)
+  unfolding needed
+  needed-last n m =
+      let e : bytes + (cap - 1) ≡ bytes - 1 + cap = omega arith in
+      rw (ne-eqb bytes 0 n, e, add-div-right (bytes - 1) {k = cap} (omega arith))
+
+  -- a text has no fewer bytes than packets
+  pub packets-fit : (bytes ≡ 0 → ⊥) → (bytes - 1) / cap + 1 ≤ bytes
+  packets-fit n = omega (arith, div-le-self (bytes - 1) cap)
+
+-- ---- the plan
+module _ (n room : ℕ) where
+  pub room-many : 64 < n → P.Refused TooManyPackets ≡ roomOf n room
+  unfolding roomOf
+  room-many h = rw (lt-ltb 64 n h)
+
+  module _ (h : n ≤ 64) where
+    pub room-short : room < n → P.Refused NoRoom ≡ roomOf n room
+    unfolding roomOf
+    room-short l = rw (le-ltb 64 n h, lt-ltb room n l)
+
+    pub room-enough : n ≤ room → P.Needs (packet n) ≡ roomOf n room
+    unfolding roomOf
+    room-enough l = rw (le-ltb 64 n h, le-ltb room n l)
+
+module _ (text : List ℕ) (cap room : ℕ) where
+  pub plan-bad : {n : TextByteNumber} → firstBad text ≡ BadAt n → P.Refused NotUtf8 ≡ planOf text cap room
+  unfolding planOf
+  plan-bad e = rw e
+
+  pub plan-good : firstBad text ≡ Good → roomOf (needed cap (length text)) room ≡ planOf text cap room
+  unfolding planOf
+  plan-good e = rw e
+
+-- ---- text
+module _ (status offset head : ℕ) (text ws : List ℕ) where
+  pub text-refused : {r : Refusal} → targetOf status (walkOf ws 0) ≡ T.Refused r → textOn status offset head text ws ≡ unchanged r ws
+  unfolding textOn
+  text-refused e = settled-refused _ ws e
+
+  module _ {n : PacketNumber} (e : targetOf status (walkOf ws 0) ≡ T.Packets n) where
+    pub text-planless : {r : Refusal} → planOf text (14 - offset) (packetsOf ws) ≡ P.Refused r → textOn status offset head text ws ≡ unchanged r ws
+    unfolding textOn
+    text-planless h = settled-own _ ws e ∙ rw h
+
+    pub text-done : {m : PacketNumber} → planOf text (14 - offset) (packetsOf ws) ≡ P.Needs m → textOn status offset head text ws ≡ left A.Done (fillText text offset head (m .0) ws)
+    unfolding textOn
+    text-done h = settled-own _ ws e ∙ rw h
+
+-- ---- a number in each packet
+module _ (status at span v : ℕ) (ws : List ℕ) where
+  pub each-refused : {r : Refusal} → targetOf status (walkOf ws 0) ≡ T.Refused r → eachOn status at span v ws ≡ unchanged r ws
+  unfolding eachOn
+  each-refused e = settled-refused _ ws e
+
+  module _ {n : PacketNumber} (e : targetOf status (walkOf ws 0) ≡ T.Packets n) where
+    pub each-large : leb (2 ^ span) v ≡ true → eachOn status at span v ws ≡ unchanged NumberTooLarge ws
+    unfolding eachOn
+    each-large h = settled-own _ ws e ∙ rw (le-ltb v (2 ^ span) (leb-true (2 ^ span) v h))
+
+    pub each-done : leb (2 ^ span) v ≡ false → eachOn status at span v ws ≡ left A.Done (putEach (n .0) at span v ws)
+    unfolding eachOn
+    each-done h = settled-own _ ws e ∙ rw (lt-ltb v (2 ^ span) (leb-false (2 ^ span) v h))

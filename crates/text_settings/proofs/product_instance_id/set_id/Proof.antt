@@ -1,0 +1,22 @@
+use mathlib.Core.Path.{refl}
+use lib.Dec.{lit≤}
+use Rattle.kinds.specs.declared.kind.Kind.the-variants as K
+use Rattle.settings.proofs.Left.{said-as}
+use Rattle.text_settings.proofs.Rows.{textFacts, set-text}
+use Rattle.text_settings.proofs.Heads.{id-head}
+use borrow.Author.Needs.{needs}
+use Rattle.text_settings.proofs.product_instance_id.set_id.Statement.{statement}
+use Rattle.text_settings.proofs.product_instance_id.set_id.Tie as tie
+
+set-text-requires : tie.Need-set-text-requires
+set-text-requires c κs = search needs
+
+same-length : tie.Need-same-length
+same-length c = search needs
+
+returns : tie.Need-returns
+unfolding textFacts
+returns c = said-as (set-text K.ProductInstanceId _ 0 _ _ _ refl (lit≤ tt) (id-head _)) (c .before .before .set-text .ensures)
+
+pub set-id-spec : {M : Type 1} → statement M
+set-id-spec = tie.close (tie.spec set-text-requires same-length returns)

@@ -1,0 +1,49 @@
+-- Text set on words: what the target refuses, then 11, 3 and 14; else the text is written into the packets that it needs. And a number set in the head of each packet.
+use Prim.Native.Nat.{ℕ, _+_, _-_, _*_, _^_}
+use mathlib.Core.List.{List}
+use lib.ListN.{length, getD}
+use lib.Dec.{ltb}
+use Rattle.laws.specs.Pick.{pick}
+use Rattle.laws.specs.Bits.{fieldOf}
+use Rattle.counts.specs.Counts.{packet}
+use Rattle.utf8.specs.Utf8.{firstBad}
+use Rattle.text.specs.Octets.{needed}
+use Rattle.kinds.specs.declared.refusal.Refusal.the-variants.{TooManyPackets, NotUtf8, NoRoom}
+use Rattle.records.specs.declared.answers.Answer.the-variants as A
+use Rattle.standard.specs.Heads.{headWord, packetsOf}
+use Rattle.standard.specs.Reading.{isBad}
+use Rattle.standard.specs.Walk.{walkOf}
+use Rattle.standard.specs.Words.{Left, left, unchanged}
+use Rattle.filling.specs.Filling.{putEach, fillText}
+use Rattle.settings.specs.Target.{targetOf, settled}
+use Rattle.settings.specs.Fixed.{fitted}
+use Rattle.text_settings.specs.declared.texts.Plan.{Plan}
+use Rattle.text_settings.specs.declared.texts.Plan.the-variants as P
+
+-- refusals 3 and 14 by the packets needed and the whole packets of the buffer
+unfoldable pub roomOf : ℕ → ℕ → Plan
+roomOf n room =
+    pick (ltb 64 n) (P.Refused TooManyPackets) (pick (ltb room n) (P.Refused NoRoom) (P.Needs (packet n)))
+
+-- refusal 11 comes before them
+unfoldable pub planOf : List ℕ → ℕ → ℕ → Plan
+planOf text cap room = pick (isBad (firstBad text)) (P.Refused NotUtf8) (roomOf (needed cap (length text)) room)
+
+-- what a plan leaves: nothing changed where it is refused, else by the packets needed
+abbrev pub carried : Plan → (ℕ → List ℕ) → List ℕ → Left
+carried (P.Needs n) act ws = left A.Done (act (n .0))
+carried (P.Refused r) act ws = unchanged r ws
+
+-- text in the packets of the kind with this status, from octet 2 + offset of each on, with one head but for the format
+unfoldable pub textOn : ℕ → ℕ → ℕ → List ℕ → List ℕ → Left
+textOn status offset head text ws =
+    settled (targetOf status (walkOf ws 0)) (λ m. carried (planOf text (14 - offset) (packetsOf ws)) (λ n. fillText text offset head n ws) ws) ws
+
+-- a number in the head of each packet of the message, and of none after
+unfoldable pub eachOn : ℕ → ℕ → ℕ → ℕ → List ℕ → Left
+eachOn status at span v ws =
+    settled (targetOf status (walkOf ws 0)) (λ n. fitted (ltb v (2 ^ span)) (putEach n at span v ws) ws) ws
+
+-- the head of a block name, with the block number that its first packet has
+unfoldable pub blockHead : List ℕ → ℕ
+blockHead ws = headWord 0x12 0 + fieldOf (getD ws 0 0) 8 8 * 0x100

@@ -1,0 +1,5 @@
+// Settings of text on the message at the start of any slice of words, a file a kind.
+pub mod endpoint_name;
+pub mod function_block_name;
+pub mod product_instance_id;
+pub mod texts;

@@ -1,0 +1,85 @@
+// Text set in packets, over any offset: the packets that it needs, why it is refused, and the act.
+ghost use mathlib.Core.Path.{_≡_};
+ghost use Prim.Native.Nat.{_<_};
+ghost use Rattle.counts.specs.Counts.{packet};
+ghost use Rattle.text.specs.Octets.{needed};
+ghost use Rattle.text_settings.specs.Texts.{roomOf, planOf, textOn};
+use counts::PacketNumber;
+use fast_text::check_utf8;
+use filling::texts::fill_text;
+use kinds::refusal::Refusal;
+use records::answers::Answer;
+use settings::target::Target;
+use settings::target::find_target;
+use utf8::Utf8;
+
+pub enum Plan {
+    // The text goes into so many packets.
+    Needs(PacketNumber),
+    Refused(Refusal),
+}
+
+// Packets needed for so many bytes: 1 for empty text, else bytes divided by capacity, rounded up.
+pub fn packets_needed(bytes: usize, capacity: usize) -> PacketNumber
+    ensures { λ r. ⌜ r ≡ packet (needed capacity bytes) ⌝ }
+{
+    if bytes == 0 {
+        return PacketNumber(1);
+    }
+    if capacity == 0 {
+        return PacketNumber(0);
+    }
+    PacketNumber((bytes - 1) / capacity + 1)
+}
+
+// Refusals 3 and 14, or the packets needed for so many bytes.
+pub fn find_room(bytes: usize, capacity: usize, room: PacketNumber) -> Plan
+    ensures { λ r. ⌜ r ≡ roomOf (needed capacity bytes) (room .0) ⌝ }
+{
+    let needed = packets_needed(bytes, capacity);
+    let n = needed.0;
+    if 64 < n {
+        return Plan::Refused(Refusal::TooManyPackets);
+    }
+    if room.0 < n {
+        return Plan::Refused(Refusal::NoRoom);
+    }
+    Plan::Needs(needed)
+}
+
+// Refusals 11, 3 and 14, or the packets that the text needs.
+pub fn plan_text(text: &[u8], capacity: usize, room: PacketNumber) -> Plan
+    ensures { λ r. ⌜ r ≡ planOf (now (text .entry)) capacity (room .0) ⌝ }
+{
+    match check_utf8(text) {
+        Utf8::BadAt(_) => Plan::Refused(Refusal::NotUtf8),
+        Utf8::Good => find_room(text.len(), capacity, room),
+    }
+}
+
+// The refusals of the target, then of the plan; else the text goes into each needed packet, from octet 2 + offset on, with this head.
+pub(crate) fn set_text(
+    words: &mut [u32],
+    status: u32,
+    offset: usize,
+    head: u32,
+    text: &[u8],
+) -> Answer
+    requires { ⌜ offset < 14 ⌝ }
+    ensures answer { λ r. ⌜ r ≡ textOn status offset head (now (text .entry)) (now (words .entry)) .answer ⌝ }
+    ensures buffer { λ r. ⌜ now (words .exit) ≡ textOn status offset head (now (text .entry)) (now (words .entry)) .words ⌝ }
+{
+    match find_target(words, status) {
+        Target::Refused(refusal) => Answer::Refused(refusal),
+        Target::Packets(_) => {
+            let room = PacketNumber(words.len() / 4);
+            match plan_text(text, 14 - offset, room) {
+                Plan::Refused(refusal) => Answer::Refused(refusal),
+                Plan::Needs(packets) => {
+                    fill_text(words, text, offset, head, packets);
+                    Answer::Done
+                }
+            }
+        }
+    }
+}

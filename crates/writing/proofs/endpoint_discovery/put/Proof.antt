@@ -1,0 +1,103 @@
+use Rattle.kinds.specs.Fields.{same, decided, partOf}
+use Rattle.kinds.specs.Layout.{layout}
+use Rattle.records.specs.Records.{fieldsIn, lookup}
+use Rattle.filling.proofs.Puts.{putIns}
+use Rattle.writing.specs.Put.{putRecord}
+use native.Mathlib.Omega.{arith}
+use Rattle.bit_ops.proofs.Parts.{bit-byte}
+use borrow.Author.Needs.{needs}
+use Rattle.writing.proofs.endpoint_discovery.put.Statement.{statement}
+use Rattle.writing.proofs.endpoint_discovery.put.Tie as tie
+
+clear-requires : tie.Need-clear-requires
+clear-requires c κs = search needs
+
+cast-put-field : tie.Need-cast-put-field
+cast-put-field c = search needs
+
+put-field-requires : tie.Need-put-field-requires
+put-field-requires c κs = search needs
+
+cast-put-field-2 : tie.Need-cast-put-field-2
+cast-put-field-2 c = search needs
+
+put-field-requires-2 : tie.Need-put-field-requires-2
+put-field-requires-2 c κs = search needs
+
+cast-put-field-3 : tie.Need-cast-put-field-3
+cast-put-field-3 c = search needs
+
+put-field-requires-3 : tie.Need-put-field-requires-3
+put-field-requires-3 c κs = search needs
+
+cast-put-field-4 : tie.Need-cast-put-field-4
+cast-put-field-4 c = search needs
+
+put-field-requires-4 : tie.Need-put-field-requires-4
+put-field-requires-4 c κs = search needs
+
+cast-put-field-5 : tie.Need-cast-put-field-5
+cast-put-field-5 c = search needs
+
+put-field-requires-5 : tie.Need-put-field-requires-5
+put-field-requires-5 c κs = search needs
+
+cast-put-field-6 : tie.Need-cast-put-field-6
+cast-put-field-6 c = search needs
+
+put-field-requires-6 : tie.Need-put-field-requires-6
+put-field-requires-6 c κs = search needs
+
+cast-put-field-7 : tie.Need-cast-put-field-7
+cast-put-field-7 c = search needs
+
+put-field-requires-7 : tie.Need-put-field-requires-7
+put-field-requires-7 c κs = search needs
+
+same-length : tie.Need-same-length
+same-length c =
+    let at7 = c .before .before in
+    let at6 = at7 .before .before .before .before .before in
+    let at5 = at6 .before .before .before .before .before in
+    let at4 = at5 .before .before .before .before .before in
+    let at3 = at4 .before .before .before .before .before in
+    let at2 = at3 .before .before .before .before .before in
+    let at1 = at2 .before .before .before .before .before in
+    let clear = at1 .before .before .before .before .before in
+    omega (arith, at7 .put-field7 .kept .0, at6 .put-field6 .kept .0, at5 .put-field5 .kept .0, at4 .put-field4 .kept .0, at3 .put-field3 .kept .0, at2 .put-field2 .kept .0, at1 .put-field .kept .0, clear .clear .kept .0)
+
+returns : tie.Need-returns
+unfolding putRecord putIns layout fieldsIn lookup same decided partOf
+returns c =
+    let at7 = c .before .before in
+    let at6 = at7 .before .before .before .before .before in
+    let at5 = at6 .before .before .before .before .before in
+    let at4 = at5 .before .before .before .before .before in
+    let at3 = at4 .before .before .before .before .before in
+    let at2 = at3 .before .before .before .before .before in
+    let at1 = at2 .before .before .before .before .before in
+    let clear = at1 .before .before .before .before .before in
+    let e = clear .before .before .before .args .e in
+    rw (at7 .put-field7 .ensures, at6 .put-field6 .ensures, at5 .put-field5 .ensures, at4 .put-field4 .ensures, at3 .put-field3 .ensures, at2 .put-field2 .ensures, at1 .put-field .ensures, clear .clear .ensures, bit-byte (e .«request_endpoint_info»), bit-byte (e .«request_device_identity»), bit-byte (e .«request_endpoint_name»), bit-byte (e .«request_product_instance_id»), bit-byte (e .«request_stream_configuration»))
+
+pub put-spec : {M : Type 1} → statement M
+put-spec =
+    tie.close
+    (tie.spec
+    clear-requires
+    cast-put-field
+    put-field-requires
+    cast-put-field-2
+    put-field-requires-2
+    cast-put-field-3
+    put-field-requires-3
+    cast-put-field-4
+    put-field-requires-4
+    cast-put-field-5
+    put-field-requires-5
+    cast-put-field-6
+    put-field-requires-6
+    cast-put-field-7
+    put-field-requires-7
+    same-length
+    returns)

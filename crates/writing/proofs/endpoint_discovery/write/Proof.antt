@@ -1,0 +1,25 @@
+use native.Mathlib.Omega.{arith}
+use Rattle.kinds.specs.Layout.{layout}
+use Rattle.settings.proofs.Left.{said}
+use Rattle.writing.proofs.Cases.{discovery, write-short, write-done}
+use Rattle.writing.proofs.Fitting.{discovery-fits}
+use borrow.Author.Needs.{needs}
+use Rattle.writing.proofs.endpoint_discovery.write.Statement.{statement}
+use Rattle.writing.proofs.endpoint_discovery.write.Tie as tie
+
+returns : tie.Need-returns
+unfolding layout
+returns c = said (write-short (discovery _) _ (discovery-fits _ (omega (arith, c .before .before .good .1)) (omega (arith, c .before .before .good .1))) (c .if1 .taken))
+
+put-requires : tie.Need-put-requires
+put-requires c κs = search needs
+
+same-length : tie.Need-same-length
+same-length c = search needs
+
+returns-2 : tie.Need-returns-2
+unfolding layout
+returns-2 c = rw (c .before .before .put .ensures) (said (write-done (discovery _) _ (discovery-fits _ (omega (arith, c .before .before .before .before .before .before .good .1)) (omega (arith, c .before .before .before .before .before .before .good .1))) (c .before .before .before .before .if1 .left)))
+
+pub write-spec : {M : Type 1} → statement M
+write-spec = tie.close (tie.spec returns put-requires same-length returns-2)

@@ -1,0 +1,75 @@
+use Rattle.slots.specs.Slots.{put, putAll}
+use Rattle.kinds.specs.Fields.{start, partOf}
+use Rattle.kinds.specs.Layout.{layout}
+use Rattle.standard.specs.Words.{putWord}
+use borrow.Author.Needs.{needs}
+use Rattle.writing.proofs.fresh.fresh_head.Statement.{statement}
+use Rattle.writing.proofs.fresh.fresh_head.Tie as tie
+
+enum-told : tie.Need-enum-told
+enum-told c = search needs
+
+enum-told-2 : tie.Need-enum-told-2
+enum-told-2 c = search needs
+
+enum-told-3 : tie.Need-enum-told-3
+enum-told-3 c = search needs
+
+enum-told-4 : tie.Need-enum-told-4
+enum-told-4 c = search needs
+
+enum-told-5 : tie.Need-enum-told-5
+enum-told-5 c = search needs
+
+enum-told-6 : tie.Need-enum-told-6
+enum-told-6 c = search needs
+
+enum-told-7 : tie.Need-enum-told-7
+enum-told-7 c = search needs
+
+returns : tie.Need-returns
+unfolding layout start partOf putWord put putAll
+returns c = rw (c .enum-told .given .1)
+
+returns-2 : tie.Need-returns-2
+unfolding layout start partOf putWord put putAll
+returns-2 c = rw (c .enum-told2 .given .1)
+
+returns-3 : tie.Need-returns-3
+unfolding layout start partOf putWord put putAll
+returns-3 c = rw (c .enum-told3 .given .1)
+
+returns-4 : tie.Need-returns-4
+unfolding layout start partOf putWord put putAll
+returns-4 c = rw (c .enum-told4 .given .1)
+
+returns-5 : tie.Need-returns-5
+unfolding layout start partOf putWord put putAll
+returns-5 c = rw (c .enum-told5 .given .1)
+
+returns-6 : tie.Need-returns-6
+unfolding layout start partOf putWord put putAll
+returns-6 c = rw (c .enum-told6 .given .1)
+
+returns-7 : tie.Need-returns-7
+unfolding layout start partOf putWord put putAll
+returns-7 c = rw (c .enum-told7 .given .1)
+
+pub fresh-head-spec : {M : Type 1} → statement M
+fresh-head-spec =
+    tie.close
+    (tie.spec
+    enum-told
+    enum-told-2
+    enum-told-3
+    enum-told-4
+    enum-told-5
+    enum-told-6
+    enum-told-7
+    returns
+    returns-2
+    returns-3
+    returns-4
+    returns-5
+    returns-6
+    returns-7)

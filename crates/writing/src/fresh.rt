@@ -1,0 +1,43 @@
+// A fresh message: every whole packet zero, then type, Complete and status; block info starts with direction 3.
+ghost use mathlib.Core.Path.{_≡_};
+ghost use Rattle.kinds.specs.Fields.{start};
+ghost use Rattle.kinds.specs.Layout.{layout};
+ghost use Rattle.standard.specs.Words.{headOf, freshOn};
+use filling::packets::clear;
+use kinds::kind::Kind;
+use kinds::kind::Known;
+use kinds::refusal::Refusal;
+use reading::heads::kind_of;
+use records::answers::Answer;
+
+// The first word.
+fn fresh_head(kind: Kind) -> u32
+    ensures { λ r. ⌜ r ≡ headOf (layout kind) start 0 ⌝ }
+{
+    match kind {
+        Kind::EndpointDiscovery => 0xF000_0000,
+        Kind::EndpointInfo => 0xF001_0000,
+        Kind::DeviceIdentity => 0xF002_0000,
+        Kind::EndpointName => 0xF003_0000,
+        Kind::ProductInstanceId => 0xF004_0000,
+        Kind::FunctionBlockInfo => 0xF011_0003,
+        Kind::FunctionBlockName => 0xF012_0000,
+    }
+}
+
+// Refusals 5, then 14.
+pub fn fresh(words: &mut [u32], status: u32) -> Answer
+    ensures answer { λ r. ⌜ r ≡ freshOn status (now (words .entry)) .answer ⌝ }
+    ensures buffer { λ r. ⌜ now (words .exit) ≡ freshOn status (now (words .entry)) .words ⌝ }
+{
+    match kind_of(status) {
+        Known::Unknown => Answer::Refused(Refusal::UnknownStatus),
+        Known::Is(kind) => {
+            if words.len() < 4 {
+                return Answer::Refused(Refusal::NoRoom);
+            }
+            clear(words, fresh_head(kind));
+            Answer::Done
+        }
+    }
+}
