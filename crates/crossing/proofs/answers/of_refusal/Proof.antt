@@ -1,0 +1,15 @@
+use borrow.Author.Needs.{needs}
+use Rattle.crossing.proofs.answers.of_refusal.Statement.{statement}
+use Rattle.crossing.proofs.answers.of_refusal.Tie as tie
+
+refusal-number-requires : tie.Need-refusal-number-requires
+refusal-number-requires c κs = search needs
+
+refusal-place-requires : tie.Need-refusal-place-requires
+refusal-place-requires c κs = search needs
+
+returns : tie.Need-returns
+returns c = rw (c .before .refusal-number .ensures, c .refusal-place .ensures)
+
+pub of-refusal-spec : {M : Type 1} → statement M
+of-refusal-spec = tie.close (tie.spec refusal-number-requires refusal-place-requires returns)

@@ -1,0 +1,84 @@
+-- What a call does with a code or a record that came over: first it is made a choice or a record, or refused; then the call of that name.
+use Prim.Native.Nat.{ℕ}
+use mathlib.Core.List.{List}
+use Rattle.counts.specs.Counts.{packet, byte}
+use Rattle.text.specs.declared.TextPlace.{TextPlace}
+use Rattle.kinds.specs.Fields.{Setting}
+use Rattle.records.specs.declared.message.Message.{Message}
+use Rattle.records.specs.Settings.{setRecord}
+use Rattle.standard.specs.Words.{Left, unchanged, setOn, writeOn}
+use Rattle.crossing.specs.declared.numbers.Numbers.{Numbers}
+use Rattle.crossing.specs.declared.answers.RecordAnswer.{RecordAnswer}
+use Rattle.crossing.specs.declared.given.Given.{Given}
+use Rattle.crossing.specs.declared.given.Given.the-variants as G
+use Rattle.crossing.specs.declared.choices.HintGiven.{HintGiven}
+use Rattle.crossing.specs.declared.choices.HintGiven.the-variants as H
+use Rattle.crossing.specs.declared.choices.PortGiven.{PortGiven}
+use Rattle.crossing.specs.declared.choices.PortGiven.the-variants as P
+use Rattle.crossing.specs.declared.choices.DirectionGiven.{DirectionGiven}
+use Rattle.crossing.specs.declared.choices.DirectionGiven.the-variants as D
+use Rattle.crossing.specs.Crossed.{withRefusal, editedCrossed}
+use Rattle.crossing.specs.Given.{givenOf, hintGiven, portGiven, directionGiven}
+
+-- a text place from its two numbers
+abbrev pub placeAt : ℕ → ℕ → TextPlace
+placeAt p b = record { packet = packet p; byte = byte b }
+
+-- ---- choices set on words: a code that names none is refused before the words are looked at
+abbrev hintSet : HintGiven → List ℕ → Left
+hintSet (H.Is h) ws = setOn (Setting.ui-hint h) ws
+hintSet (H.Refused r) ws = unchanged r ws
+
+abbrev pub hintOn : ℕ → List ℕ → Left
+hintOn n ws = hintSet (hintGiven n) ws
+
+abbrev portSet : PortGiven → List ℕ → Left
+portSet (P.Is p) ws = setOn (Setting.midi1-port p) ws
+portSet (P.Refused r) ws = unchanged r ws
+
+abbrev pub portOn : ℕ → List ℕ → Left
+portOn n ws = portSet (portGiven n) ws
+
+abbrev directionSet : DirectionGiven → List ℕ → Left
+directionSet (D.Is d) ws = setOn (Setting.direction d) ws
+directionSet (D.Refused r) ws = unchanged r ws
+
+abbrev pub directionOn : ℕ → List ℕ → Left
+directionOn n ws = directionSet (directionGiven n) ws
+
+-- ---- on a record: numbers that are no record are handed back as they came
+abbrev setGiven : Given → (Message → Setting) → Numbers → RecordAnswer
+setGiven (G.Message m) s c = editedCrossed (setRecord (s m) m .answer) (setRecord (s m) m .message)
+setGiven (G.Refused r) s c = withRefusal r c
+
+abbrev pub setIn : (Message → Setting) → Numbers → RecordAnswer
+setIn s c = setGiven (givenOf c) s c
+
+abbrev hintEdit : HintGiven → Numbers → RecordAnswer
+hintEdit (H.Is h) c = setIn (λ m. Setting.ui-hint h) c
+hintEdit (H.Refused r) c = withRefusal r c
+
+abbrev pub hintIn : ℕ → Numbers → RecordAnswer
+hintIn n c = hintEdit (hintGiven n) c
+
+abbrev portEdit : PortGiven → Numbers → RecordAnswer
+portEdit (P.Is p) c = setIn (λ m. Setting.midi1-port p) c
+portEdit (P.Refused r) c = withRefusal r c
+
+abbrev pub portIn : ℕ → Numbers → RecordAnswer
+portIn n c = portEdit (portGiven n) c
+
+abbrev directionEdit : DirectionGiven → Numbers → RecordAnswer
+directionEdit (D.Is d) c = setIn (λ m. Setting.direction d) c
+directionEdit (D.Refused r) c = withRefusal r c
+
+abbrev pub directionIn : ℕ → Numbers → RecordAnswer
+directionIn n c = directionEdit (directionGiven n) c
+
+-- ---- writing a record
+abbrev writeGiven : Given → List ℕ → Left
+writeGiven (G.Message m) ws = writeOn m ws
+writeGiven (G.Refused r) ws = unchanged r ws
+
+abbrev pub writeIn : Numbers → List ℕ → Left
+writeIn c ws = writeGiven (givenOf c) ws

@@ -1,0 +1,104 @@
+// Reading, walking, packets, text by byte, fresh messages, writing a record, and the listing.
+ghost use mathlib.Core.Path.{_≡_};
+ghost use Rattle.standard.specs.Packet.{packetOf, messageSize};
+ghost use Rattle.standard.specs.Place.{nextByte};
+ghost use Rattle.standard.specs.Reading.{readOf};
+ghost use Rattle.standard.specs.Walk.{walkOf};
+ghost use Rattle.standard.specs.Words.{freshOn};
+ghost use Rattle.crossing.specs.Crossed.{answered, readCrossed, walkCrossed, packetCrossed, sizeCrossed, stepCrossed};
+ghost use Rattle.listing.specs.Listed.{Listed};
+ghost use Rattle.frayedbin.specs.Calls.{placeAt, writeIn};
+use counts::PacketNumber;
+use counts::TextByteNumber;
+use counts::WordNumber;
+use crossing::answers::Answered;
+use crossing::answers::PacketAnswer;
+use crossing::answers::RecordAnswer;
+use crossing::answers::SizeAnswer;
+use crossing::answers::StepAnswer;
+use crossing::answers::WalkAnswer;
+use crossing::answers::of_answer;
+use crossing::answers::of_packet;
+use crossing::answers::of_read;
+use crossing::answers::of_refusal;
+use crossing::answers::of_size;
+use crossing::answers::of_step;
+use crossing::answers::of_walked;
+use crossing::given::Given;
+use crossing::given::of_numbers;
+use crossing::numbers::Numbers;
+use reading::by_byte;
+use reading::message;
+use reading::packet;
+use text::TextPlace;
+
+#[no_mangle]
+pub extern "C" fn frayedbin_read(words: &[u32]) -> RecordAnswer
+    ensures { λ r. ⌜ r ≡ readCrossed (readOf (now (words .entry))) ⌝ }
+{
+    of_read(message::read(words))
+}
+
+#[no_mangle]
+pub extern "C" fn frayedbin_walk(words: &[u32], position: usize) -> WalkAnswer
+    ensures { λ r. ⌜ r ≡ walkCrossed (walkOf (now (words .entry)) position) ⌝ }
+{
+    of_walked(walking::walk(words, WordNumber(position)))
+}
+
+#[no_mangle]
+pub extern "C" fn frayedbin_packet(words: &[u32]) -> PacketAnswer
+    ensures { λ r. ⌜ r ≡ packetCrossed (packetOf (now (words .entry))) ⌝ }
+{
+    of_packet(packet::packet(words))
+}
+
+#[no_mangle]
+pub extern "C" fn frayedbin_message_size(words: &[u32]) -> SizeAnswer
+    ensures { λ r. ⌜ r ≡ sizeCrossed (messageSize (now (words .entry))) ⌝ }
+{
+    of_size(packet::message_size(words))
+}
+
+// The text byte at a place or after it, and the place to go on from.
+#[no_mangle]
+pub extern "C" fn frayedbin_next_byte(
+    words: &[u32],
+    packet: usize,
+    byte_number: usize,
+) -> StepAnswer
+    ensures { λ r. ⌜ r ≡ stepCrossed (nextByte (now (words .entry)) (placeAt packet «byte_number»)) ⌝ }
+{
+    let place = TextPlace {
+        packet: PacketNumber(packet),
+        byte: TextByteNumber(byte_number),
+    };
+    of_step(by_byte::next_byte(words, place))
+}
+
+#[no_mangle]
+pub extern "C" fn frayedbin_fresh(words: &mut [u32], status: u32) -> Answered
+    ensures answer { λ r. ⌜ r ≡ answered (freshOn status (now (words .entry)) .answer) ⌝ }
+    ensures buffer { λ r. ⌜ now (words .exit) ≡ freshOn status (now (words .entry)) .words ⌝ }
+{
+    of_answer(writing::fresh::fresh(words, status))
+}
+
+#[no_mangle]
+pub extern "C" fn frayedbin_write(words: &mut [u32], record: Numbers) -> Answered
+    ensures answer { λ r. ⌜ r ≡ answered (writeIn «record» (now (words .entry)) .answer) ⌝ }
+    ensures buffer { λ r. ⌜ now (words .exit) ≡ writeIn «record» (now (words .entry)) .words ⌝ }
+{
+    match of_numbers(record) {
+        Given::Message(message) => of_answer(writing::write::write(words, message)),
+        Given::Refused(refusal) => of_refusal(refusal),
+    }
+}
+
+// The listing of a capture, and how many bytes it took. A buffer of 139,275 bytes holds any.
+#[no_mangle]
+pub extern "C" fn frayedbin_list(bytes: &[u8], out: &mut [u8]) -> usize
+    ensures { λ r. ⌜ Listed (now (bytes .entry)) (now (out .entry)) r (now (out .exit)) ⌝ }
+{
+    listing::list(bytes, out)
+}

@@ -1,0 +1,120 @@
+// Device identity, status 0x02: settings on words and on a record.
+ghost use mathlib.Core.Path.{_≡_};
+ghost use Rattle.kinds.specs.Fields.{Pair, Setting};
+ghost use Rattle.standard.specs.Words.{setOn};
+ghost use Rattle.crossing.specs.Crossed.{answered};
+ghost use Rattle.frayedbin.specs.Calls.{setIn};
+use crossing::answers::Answered;
+use crossing::answers::RecordAnswer;
+use crossing::answers::of_answer;
+use crossing::answers::of_edited;
+use crossing::answers::refused_record;
+use crossing::given::Given;
+use crossing::given::of_numbers;
+use crossing::numbers::Numbers;
+use settings::device_identity;
+
+#[no_mangle]
+pub extern "C" fn frayedbin_device_identity_set_device_manufacturer(
+    words: &mut [u32],
+    a: u32,
+    b: u32,
+    c: u32,
+) -> Answered
+    ensures answer { λ r. ⌜ r ≡ answered (setOn (Setting.device-manufacturer a b c) (now (words .entry)) .answer) ⌝ }
+    ensures buffer { λ r. ⌜ now (words .exit) ≡ setOn (Setting.device-manufacturer a b c) (now (words .entry)) .words ⌝ }
+{
+    of_answer(device_identity::set_device_manufacturer(words, a, b, c))
+}
+
+#[no_mangle]
+pub extern "C" fn frayedbin_device_identity_set_device_family(
+    words: &mut [u32],
+    family: u32,
+) -> Answered
+    ensures answer { λ r. ⌜ r ≡ answered (setOn (Setting.pair Pair.device-family family) (now (words .entry)) .answer) ⌝ }
+    ensures buffer { λ r. ⌜ now (words .exit) ≡ setOn (Setting.pair Pair.device-family family) (now (words .entry)) .words ⌝ }
+{
+    of_answer(device_identity::set_device_family(words, family))
+}
+
+#[no_mangle]
+pub extern "C" fn frayedbin_device_identity_set_device_family_model_number(
+    words: &mut [u32],
+    model: u32,
+) -> Answered
+    ensures answer { λ r. ⌜ r ≡ answered (setOn (Setting.pair Pair.device-family-model-number model) (now (words .entry)) .answer) ⌝ }
+    ensures buffer { λ r. ⌜ now (words .exit) ≡ setOn (Setting.pair Pair.device-family-model-number model) (now (words .entry)) .words ⌝ }
+{
+    of_answer(device_identity::set_device_family_model_number(words, model))
+}
+
+#[no_mangle]
+pub extern "C" fn frayedbin_device_identity_set_software_version(
+    words: &mut [u32],
+    a: u32,
+    b: u32,
+    c: u32,
+    d: u32,
+) -> Answered
+    ensures answer { λ r. ⌜ r ≡ answered (setOn (Setting.software-version a b c d) (now (words .entry)) .answer) ⌝ }
+    ensures buffer { λ r. ⌜ now (words .exit) ≡ setOn (Setting.software-version a b c d) (now (words .entry)) .words ⌝ }
+{
+    of_answer(device_identity::set_software_version(words, a, b, c, d))
+}
+
+// On a record.
+
+#[no_mangle]
+pub extern "C" fn frayedbin_record_set_device_manufacturer(
+    record: Numbers,
+    a: u32,
+    b: u32,
+    c: u32,
+) -> RecordAnswer
+    ensures { λ r. ⌜ r ≡ setIn (λ m. Setting.device-manufacturer a b c) «record» ⌝ }
+{
+    match of_numbers(record) {
+        Given::Message(message) => of_edited(message.set_device_manufacturer(a, b, c)),
+        Given::Refused(refusal) => refused_record(refusal, record),
+    }
+}
+
+#[no_mangle]
+pub extern "C" fn frayedbin_record_set_device_family(record: Numbers, family: u32) -> RecordAnswer
+    ensures { λ r. ⌜ r ≡ setIn (λ m. Setting.pair Pair.device-family family) «record» ⌝ }
+{
+    match of_numbers(record) {
+        Given::Message(message) => of_edited(message.set_device_family(family)),
+        Given::Refused(refusal) => refused_record(refusal, record),
+    }
+}
+
+#[no_mangle]
+pub extern "C" fn frayedbin_record_set_device_family_model_number(
+    record: Numbers,
+    model: u32,
+) -> RecordAnswer
+    ensures { λ r. ⌜ r ≡ setIn (λ m. Setting.pair Pair.device-family-model-number model) «record» ⌝ }
+{
+    match of_numbers(record) {
+        Given::Message(message) => of_edited(message.set_device_family_model_number(model)),
+        Given::Refused(refusal) => refused_record(refusal, record),
+    }
+}
+
+#[no_mangle]
+pub extern "C" fn frayedbin_record_set_software_version(
+    record: Numbers,
+    a: u32,
+    b: u32,
+    c: u32,
+    d: u32,
+) -> RecordAnswer
+    ensures { λ r. ⌜ r ≡ setIn (λ m. Setting.software-version a b c d) «record» ⌝ }
+{
+    match of_numbers(record) {
+        Given::Message(message) => of_edited(message.set_software_version(a, b, c, d)),
+        Given::Refused(refusal) => refused_record(refusal, record),
+    }
+}

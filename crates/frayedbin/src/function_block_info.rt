@@ -1,0 +1,243 @@
+// Function block info, status 0x11: settings on words and on a record.
+ghost use mathlib.Core.Path.{_≡_};
+ghost use Rattle.kinds.specs.Fields.{Flag, Number, Setting};
+ghost use Rattle.standard.specs.Words.{setOn};
+ghost use Rattle.crossing.specs.Crossed.{answered};
+ghost use Rattle.frayedbin.specs.Calls.{hintOn, portOn, directionOn, setIn, hintIn, portIn, directionIn};
+use crossing::answers::Answered;
+use crossing::answers::RecordAnswer;
+use crossing::answers::of_answer;
+use crossing::answers::of_edited;
+use crossing::answers::of_refusal;
+use crossing::answers::refused_record;
+use crossing::choices::DirectionGiven;
+use crossing::choices::HintGiven;
+use crossing::choices::PortGiven;
+use crossing::choices::direction_given;
+use crossing::choices::hint_given;
+use crossing::choices::port_given;
+use crossing::given::Given;
+use crossing::given::of_numbers;
+use crossing::numbers::Numbers;
+use settings::function_block_info;
+
+#[no_mangle]
+pub extern "C" fn frayedbin_function_block_info_set_active(words: &mut [u32], on: bool) -> Answered
+    ensures answer { λ r. ⌜ r ≡ answered (setOn (Setting.flag Flag.active on) (now (words .entry)) .answer) ⌝ }
+    ensures buffer { λ r. ⌜ now (words .exit) ≡ setOn (Setting.flag Flag.active on) (now (words .entry)) .words ⌝ }
+{
+    of_answer(function_block_info::set_active(words, on))
+}
+
+#[no_mangle]
+pub extern "C" fn frayedbin_function_block_info_set_function_block_number(
+    words: &mut [u32],
+    number: u32,
+) -> Answered
+    ensures answer { λ r. ⌜ r ≡ answered (setOn (Setting.number Number.function-block-number number) (now (words .entry)) .answer) ⌝ }
+    ensures buffer { λ r. ⌜ now (words .exit) ≡ setOn (Setting.number Number.function-block-number number) (now (words .entry)) .words ⌝ }
+{
+    of_answer(function_block_info::set_function_block_number(words, number))
+}
+
+#[no_mangle]
+pub extern "C" fn frayedbin_function_block_info_set_ui_hint(
+    words: &mut [u32],
+    code: u32,
+) -> Answered
+    ensures answer { λ r. ⌜ r ≡ answered (hintOn code (now (words .entry)) .answer) ⌝ }
+    ensures buffer { λ r. ⌜ now (words .exit) ≡ hintOn code (now (words .entry)) .words ⌝ }
+{
+    match hint_given(code) {
+        HintGiven::Is(hint) => of_answer(function_block_info::set_ui_hint(words, hint)),
+        HintGiven::Refused(refusal) => of_refusal(refusal),
+    }
+}
+
+#[no_mangle]
+pub extern "C" fn frayedbin_function_block_info_set_midi1_port(
+    words: &mut [u32],
+    code: u32,
+) -> Answered
+    ensures answer { λ r. ⌜ r ≡ answered (portOn code (now (words .entry)) .answer) ⌝ }
+    ensures buffer { λ r. ⌜ now (words .exit) ≡ portOn code (now (words .entry)) .words ⌝ }
+{
+    match port_given(code) {
+        PortGiven::Is(port) => of_answer(function_block_info::set_midi1_port(words, port)),
+        PortGiven::Refused(refusal) => of_refusal(refusal),
+    }
+}
+
+#[no_mangle]
+pub extern "C" fn frayedbin_function_block_info_set_direction(
+    words: &mut [u32],
+    code: u32,
+) -> Answered
+    ensures answer { λ r. ⌜ r ≡ answered (directionOn code (now (words .entry)) .answer) ⌝ }
+    ensures buffer { λ r. ⌜ now (words .exit) ≡ directionOn code (now (words .entry)) .words ⌝ }
+{
+    match direction_given(code) {
+        DirectionGiven::Is(direction) => of_answer(function_block_info::set_direction(
+            words,
+            direction,
+        )),
+        DirectionGiven::Refused(refusal) => of_refusal(refusal),
+    }
+}
+
+#[no_mangle]
+pub extern "C" fn frayedbin_function_block_info_set_first_group(
+    words: &mut [u32],
+    group: u32,
+) -> Answered
+    ensures answer { λ r. ⌜ r ≡ answered (setOn (Setting.number Number.first-group group) (now (words .entry)) .answer) ⌝ }
+    ensures buffer { λ r. ⌜ now (words .exit) ≡ setOn (Setting.number Number.first-group group) (now (words .entry)) .words ⌝ }
+{
+    of_answer(function_block_info::set_first_group(words, group))
+}
+
+#[no_mangle]
+pub extern "C" fn frayedbin_function_block_info_set_number_of_groups_spanned(
+    words: &mut [u32],
+    number: u32,
+) -> Answered
+    ensures answer { λ r. ⌜ r ≡ answered (setOn (Setting.number Number.number-of-groups-spanned number) (now (words .entry)) .answer) ⌝ }
+    ensures buffer { λ r. ⌜ now (words .exit) ≡ setOn (Setting.number Number.number-of-groups-spanned number) (now (words .entry)) .words ⌝ }
+{
+    of_answer(function_block_info::set_number_of_groups_spanned(words, number))
+}
+
+#[no_mangle]
+pub extern "C" fn frayedbin_function_block_info_set_midi_ci_version(
+    words: &mut [u32],
+    version: u32,
+) -> Answered
+    ensures answer { λ r. ⌜ r ≡ answered (setOn (Setting.number Number.midi-ci-version version) (now (words .entry)) .answer) ⌝ }
+    ensures buffer { λ r. ⌜ now (words .exit) ≡ setOn (Setting.number Number.midi-ci-version version) (now (words .entry)) .words ⌝ }
+{
+    of_answer(function_block_info::set_midi_ci_version(words, version))
+}
+
+#[no_mangle]
+pub extern "C" fn frayedbin_function_block_info_set_max_number_of_midi_ci_streams(
+    words: &mut [u32],
+    number: u32,
+) -> Answered
+    ensures answer { λ r. ⌜ r ≡ answered (setOn (Setting.number Number.max-number-of-midi-ci-streams number) (now (words .entry)) .answer) ⌝ }
+    ensures buffer { λ r. ⌜ now (words .exit) ≡ setOn (Setting.number Number.max-number-of-midi-ci-streams number) (now (words .entry)) .words ⌝ }
+{
+    of_answer(function_block_info::set_max_number_of_midi_ci_streams(words, number))
+}
+
+// On a record.
+
+#[no_mangle]
+pub extern "C" fn frayedbin_record_set_active(record: Numbers, on: bool) -> RecordAnswer
+    ensures { λ r. ⌜ r ≡ setIn (λ m. Setting.flag Flag.active on) «record» ⌝ }
+{
+    match of_numbers(record) {
+        Given::Message(message) => of_edited(message.set_active(on)),
+        Given::Refused(refusal) => refused_record(refusal, record),
+    }
+}
+
+#[no_mangle]
+pub extern "C" fn frayedbin_record_set_function_block_number(
+    record: Numbers,
+    number: u32,
+) -> RecordAnswer
+    ensures { λ r. ⌜ r ≡ setIn (λ m. Setting.number Number.function-block-number number) «record» ⌝ }
+{
+    match of_numbers(record) {
+        Given::Message(message) => of_edited(message.set_function_block_number(number)),
+        Given::Refused(refusal) => refused_record(refusal, record),
+    }
+}
+
+#[no_mangle]
+pub extern "C" fn frayedbin_record_set_ui_hint(record: Numbers, code: u32) -> RecordAnswer
+    ensures { λ r. ⌜ r ≡ hintIn code «record» ⌝ }
+{
+    match hint_given(code) {
+        HintGiven::Is(hint) => match of_numbers(record) {
+            Given::Message(message) => of_edited(message.set_ui_hint(hint)),
+            Given::Refused(refusal) => refused_record(refusal, record),
+        },
+        HintGiven::Refused(refusal) => refused_record(refusal, record),
+    }
+}
+
+#[no_mangle]
+pub extern "C" fn frayedbin_record_set_midi1_port(record: Numbers, code: u32) -> RecordAnswer
+    ensures { λ r. ⌜ r ≡ portIn code «record» ⌝ }
+{
+    match port_given(code) {
+        PortGiven::Is(port) => match of_numbers(record) {
+            Given::Message(message) => of_edited(message.set_midi1_port(port)),
+            Given::Refused(refusal) => refused_record(refusal, record),
+        },
+        PortGiven::Refused(refusal) => refused_record(refusal, record),
+    }
+}
+
+#[no_mangle]
+pub extern "C" fn frayedbin_record_set_direction(record: Numbers, code: u32) -> RecordAnswer
+    ensures { λ r. ⌜ r ≡ directionIn code «record» ⌝ }
+{
+    match direction_given(code) {
+        DirectionGiven::Is(direction) => match of_numbers(record) {
+            Given::Message(message) => of_edited(message.set_direction(direction)),
+            Given::Refused(refusal) => refused_record(refusal, record),
+        },
+        DirectionGiven::Refused(refusal) => refused_record(refusal, record),
+    }
+}
+
+#[no_mangle]
+pub extern "C" fn frayedbin_record_set_first_group(record: Numbers, group: u32) -> RecordAnswer
+    ensures { λ r. ⌜ r ≡ setIn (λ m. Setting.number Number.first-group group) «record» ⌝ }
+{
+    match of_numbers(record) {
+        Given::Message(message) => of_edited(message.set_first_group(group)),
+        Given::Refused(refusal) => refused_record(refusal, record),
+    }
+}
+
+#[no_mangle]
+pub extern "C" fn frayedbin_record_set_number_of_groups_spanned(
+    record: Numbers,
+    number: u32,
+) -> RecordAnswer
+    ensures { λ r. ⌜ r ≡ setIn (λ m. Setting.number Number.number-of-groups-spanned number) «record» ⌝ }
+{
+    match of_numbers(record) {
+        Given::Message(message) => of_edited(message.set_number_of_groups_spanned(number)),
+        Given::Refused(refusal) => refused_record(refusal, record),
+    }
+}
+
+#[no_mangle]
+pub extern "C" fn frayedbin_record_set_midi_ci_version(
+    record: Numbers,
+    version: u32,
+) -> RecordAnswer
+    ensures { λ r. ⌜ r ≡ setIn (λ m. Setting.number Number.midi-ci-version version) «record» ⌝ }
+{
+    match of_numbers(record) {
+        Given::Message(message) => of_edited(message.set_midi_ci_version(version)),
+        Given::Refused(refusal) => refused_record(refusal, record),
+    }
+}
+
+#[no_mangle]
+pub extern "C" fn frayedbin_record_set_max_number_of_midi_ci_streams(
+    record: Numbers,
+    number: u32,
+) -> RecordAnswer
+    ensures { λ r. ⌜ r ≡ setIn (λ m. Setting.number Number.max-number-of-midi-ci-streams number) «record» ⌝ }
+{
+    match of_numbers(record) {
+        Given::Message(message) => of_edited(message.set_max_number_of_midi_ci_streams(number)),
+        Given::Refused(refusal) => refused_record(refusal, record),
+    }
+}

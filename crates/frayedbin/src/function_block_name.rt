@@ -1,0 +1,46 @@
+// Function block name, status 0x12: settings on words and on a record.
+ghost use mathlib.Core.Path.{_≡_};
+ghost use Rattle.kinds.specs.Fields.{Number, Text, Setting};
+ghost use Rattle.standard.specs.Words.{setOn};
+ghost use Rattle.crossing.specs.Crossed.{answered};
+ghost use Rattle.frayedbin.specs.Calls.{setIn};
+use crossing::answers::Answered;
+use crossing::answers::RecordAnswer;
+use crossing::answers::of_answer;
+use crossing::answers::of_edited;
+use crossing::answers::refused_record;
+use crossing::given::Given;
+use crossing::given::of_numbers;
+use crossing::numbers::Numbers;
+use text_settings::function_block_name;
+
+#[no_mangle]
+pub extern "C" fn frayedbin_function_block_name_set_function_block(
+    words: &mut [u32],
+    number: u32,
+) -> Answered
+    ensures answer { λ r. ⌜ r ≡ answered (setOn (Setting.number Number.function-block number) (now (words .entry)) .answer) ⌝ }
+    ensures buffer { λ r. ⌜ now (words .exit) ≡ setOn (Setting.number Number.function-block number) (now (words .entry)) .words ⌝ }
+{
+    of_answer(function_block_name::set_function_block(words, number))
+}
+
+#[no_mangle]
+pub extern "C" fn frayedbin_function_block_name_set_name(words: &mut [u32], name: &[u8]) -> Answered
+    ensures answer { λ r. ⌜ r ≡ answered (setOn (Setting.text Text.function-block-name (now (name .entry))) (now (words .entry)) .answer) ⌝ }
+    ensures buffer { λ r. ⌜ now (words .exit) ≡ setOn (Setting.text Text.function-block-name (now (name .entry))) (now (words .entry)) .words ⌝ }
+{
+    of_answer(function_block_name::set_name(words, name))
+}
+
+// On a record.
+
+#[no_mangle]
+pub extern "C" fn frayedbin_record_set_function_block(record: Numbers, number: u32) -> RecordAnswer
+    ensures { λ r. ⌜ r ≡ setIn (λ m. Setting.number Number.function-block number) «record» ⌝ }
+{
+    match of_numbers(record) {
+        Given::Message(message) => of_edited(message.set_function_block(number)),
+        Given::Refused(refusal) => refused_record(refusal, record),
+    }
+}

@@ -1,0 +1,58 @@
+// Settings on a record under names that several kinds have. A record has no text: a text is refused.
+ghost use mathlib.Core.Path.{_≡_};
+ghost use Rattle.kinds.specs.Fields.{Text, Setting};
+ghost use Rattle.records.specs.Records.{kindIn};
+ghost use Rattle.records.specs.Settings.{majorOf, minorOf, nameOf};
+ghost use Rattle.frayedbin.specs.Calls.{setIn};
+use crossing::answers::RecordAnswer;
+use crossing::answers::of_edited;
+use crossing::answers::refused_record;
+use crossing::given::Given;
+use crossing::given::of_numbers;
+use crossing::numbers::Numbers;
+
+#[no_mangle]
+pub extern "C" fn frayedbin_record_set_ump_version_major(
+    record: Numbers,
+    version: u32,
+) -> RecordAnswer
+    ensures { λ r. ⌜ r ≡ setIn (λ m. Setting.number (majorOf (kindIn m)) version) «record» ⌝ }
+{
+    match of_numbers(record) {
+        Given::Message(message) => of_edited(message.set_ump_version_major(version)),
+        Given::Refused(refusal) => refused_record(refusal, record),
+    }
+}
+
+#[no_mangle]
+pub extern "C" fn frayedbin_record_set_ump_version_minor(
+    record: Numbers,
+    version: u32,
+) -> RecordAnswer
+    ensures { λ r. ⌜ r ≡ setIn (λ m. Setting.number (minorOf (kindIn m)) version) «record» ⌝ }
+{
+    match of_numbers(record) {
+        Given::Message(message) => of_edited(message.set_ump_version_minor(version)),
+        Given::Refused(refusal) => refused_record(refusal, record),
+    }
+}
+
+#[no_mangle]
+pub extern "C" fn frayedbin_record_set_name(record: Numbers, name: &[u8]) -> RecordAnswer
+    ensures { λ r. ⌜ r ≡ setIn (λ m. Setting.text (nameOf (kindIn m)) (now (name .entry))) «record» ⌝ }
+{
+    match of_numbers(record) {
+        Given::Message(message) => of_edited(message.set_name(name)),
+        Given::Refused(refusal) => refused_record(refusal, record),
+    }
+}
+
+#[no_mangle]
+pub extern "C" fn frayedbin_record_set_id(record: Numbers, id: &[u8]) -> RecordAnswer
+    ensures { λ r. ⌜ r ≡ setIn (λ m. Setting.text Text.product-instance-id (now (id .entry))) «record» ⌝ }
+{
+    match of_numbers(record) {
+        Given::Message(message) => of_edited(message.set_id(id)),
+        Given::Refused(refusal) => refused_record(refusal, record),
+    }
+}
