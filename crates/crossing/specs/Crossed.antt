@@ -108,6 +108,7 @@ byteCrossed T.End = 0
 abbrev pub stepCrossed : Stepped → StepAnswer
 stepCrossed s = record { byte = byteCrossed (s .step); packet = s .place .packet .0; «byte_number» = s .place .byte .0 }
 
-abbrev pub editedCrossed : Answer → Message → RecordAnswer
-editedCrossed A.Done m = withRecord m
-editedCrossed (A.Refused r) m = withRefusal r (crossed m)
+-- refused, the numbers are handed back as they came
+abbrev pub editedCrossed : Answer → Message → Numbers → RecordAnswer
+editedCrossed A.Done m c = withRecord m
+editedCrossed (A.Refused r) m c = withRefusal r c

@@ -224,8 +224,9 @@ pub fn of_step(stepped: Stepped) -> StepAnswer
     }
 }
 
-pub fn of_edited(edited: Edited) -> RecordAnswer
-    ensures { λ r. ⌜ r ≡ editedCrossed (edited .answer) (edited .message) ⌝ }
+// A setting on the record that these numbers are.
+pub fn of_edited(edited: Edited, numbers: Numbers) -> RecordAnswer
+    ensures { λ r. ⌜ r ≡ editedCrossed (edited .answer) (edited .message) numbers ⌝ }
 {
     let answer = edited.answer;
     let message = edited.message;
@@ -235,6 +236,6 @@ pub fn of_edited(edited: Edited) -> RecordAnswer
             place: 0,
             numbers: of_message(message),
         },
-        Answer::Refused(refusal) => refused_record(refusal, of_message(message)),
+        Answer::Refused(refusal) => refused_record(refusal, numbers),
     }
 }

@@ -48,7 +48,7 @@ directionOn n ws = directionSet (directionGiven n) ws
 
 -- ---- on a record: numbers that are no record are handed back as they came
 abbrev setGiven : Given → (Message → Setting) → Numbers → RecordAnswer
-setGiven (G.Message m) s c = editedCrossed (setRecord (s m) m .answer) (setRecord (s m) m .message)
+setGiven (G.Message m) s c = editedCrossed (setRecord (s m) m .answer) (setRecord (s m) m .message) c
 setGiven (G.Refused r) s c = withRefusal r c
 
 abbrev pub setIn : (Message → Setting) → Numbers → RecordAnswer

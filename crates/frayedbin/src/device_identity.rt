@@ -75,7 +75,7 @@ pub extern "C" fn frayedbin_record_set_device_manufacturer(
     ensures { λ r. ⌜ r ≡ setIn (λ m. Setting.device-manufacturer a b c) «record» ⌝ }
 {
     match of_numbers(record) {
-        Given::Message(message) => of_edited(message.set_device_manufacturer(a, b, c)),
+        Given::Message(message) => of_edited(message.set_device_manufacturer(a, b, c), record),
         Given::Refused(refusal) => refused_record(refusal, record),
     }
 }
@@ -85,7 +85,7 @@ pub extern "C" fn frayedbin_record_set_device_family(record: Numbers, family: u3
     ensures { λ r. ⌜ r ≡ setIn (λ m. Setting.pair Pair.device-family family) «record» ⌝ }
 {
     match of_numbers(record) {
-        Given::Message(message) => of_edited(message.set_device_family(family)),
+        Given::Message(message) => of_edited(message.set_device_family(family), record),
         Given::Refused(refusal) => refused_record(refusal, record),
     }
 }
@@ -98,7 +98,7 @@ pub extern "C" fn frayedbin_record_set_device_family_model_number(
     ensures { λ r. ⌜ r ≡ setIn (λ m. Setting.pair Pair.device-family-model-number model) «record» ⌝ }
 {
     match of_numbers(record) {
-        Given::Message(message) => of_edited(message.set_device_family_model_number(model)),
+        Given::Message(message) => of_edited(message.set_device_family_model_number(model), record),
         Given::Refused(refusal) => refused_record(refusal, record),
     }
 }
@@ -114,7 +114,7 @@ pub extern "C" fn frayedbin_record_set_software_version(
     ensures { λ r. ⌜ r ≡ setIn (λ m. Setting.software-version a b c d) «record» ⌝ }
 {
     match of_numbers(record) {
-        Given::Message(message) => of_edited(message.set_software_version(a, b, c, d)),
+        Given::Message(message) => of_edited(message.set_software_version(a, b, c, d), record),
         Given::Refused(refusal) => refused_record(refusal, record),
     }
 }

@@ -101,7 +101,7 @@ pub extern "C" fn frayedbin_record_set_request_endpoint_info(
     ensures { λ r. ⌜ r ≡ setIn (λ m. Setting.flag Flag.request-endpoint-info on) «record» ⌝ }
 {
     match of_numbers(record) {
-        Given::Message(message) => of_edited(message.set_request_endpoint_info(on)),
+        Given::Message(message) => of_edited(message.set_request_endpoint_info(on), record),
         Given::Refused(refusal) => refused_record(refusal, record),
     }
 }
@@ -114,7 +114,7 @@ pub extern "C" fn frayedbin_record_set_request_device_identity(
     ensures { λ r. ⌜ r ≡ setIn (λ m. Setting.flag Flag.request-device-identity on) «record» ⌝ }
 {
     match of_numbers(record) {
-        Given::Message(message) => of_edited(message.set_request_device_identity(on)),
+        Given::Message(message) => of_edited(message.set_request_device_identity(on), record),
         Given::Refused(refusal) => refused_record(refusal, record),
     }
 }
@@ -127,7 +127,7 @@ pub extern "C" fn frayedbin_record_set_request_endpoint_name(
     ensures { λ r. ⌜ r ≡ setIn (λ m. Setting.flag Flag.request-endpoint-name on) «record» ⌝ }
 {
     match of_numbers(record) {
-        Given::Message(message) => of_edited(message.set_request_endpoint_name(on)),
+        Given::Message(message) => of_edited(message.set_request_endpoint_name(on), record),
         Given::Refused(refusal) => refused_record(refusal, record),
     }
 }
@@ -140,7 +140,7 @@ pub extern "C" fn frayedbin_record_set_request_product_instance_id(
     ensures { λ r. ⌜ r ≡ setIn (λ m. Setting.flag Flag.request-product-instance-id on) «record» ⌝ }
 {
     match of_numbers(record) {
-        Given::Message(message) => of_edited(message.set_request_product_instance_id(on)),
+        Given::Message(message) => of_edited(message.set_request_product_instance_id(on), record),
         Given::Refused(refusal) => refused_record(refusal, record),
     }
 }
@@ -153,7 +153,7 @@ pub extern "C" fn frayedbin_record_set_request_stream_configuration(
     ensures { λ r. ⌜ r ≡ setIn (λ m. Setting.flag Flag.request-stream-configuration on) «record» ⌝ }
 {
     match of_numbers(record) {
-        Given::Message(message) => of_edited(message.set_request_stream_configuration(on)),
+        Given::Message(message) => of_edited(message.set_request_stream_configuration(on), record),
         Given::Refused(refusal) => refused_record(refusal, record),
     }
 }

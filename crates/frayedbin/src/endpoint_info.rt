@@ -112,7 +112,7 @@ pub extern "C" fn frayedbin_record_set_static_function_blocks(
     ensures { λ r. ⌜ r ≡ setIn (λ m. Setting.flag Flag.static-function-blocks on) «record» ⌝ }
 {
     match of_numbers(record) {
-        Given::Message(message) => of_edited(message.set_static_function_blocks(on)),
+        Given::Message(message) => of_edited(message.set_static_function_blocks(on), record),
         Given::Refused(refusal) => refused_record(refusal, record),
     }
 }
@@ -125,7 +125,7 @@ pub extern "C" fn frayedbin_record_set_supports_midi2_protocol(
     ensures { λ r. ⌜ r ≡ setIn (λ m. Setting.flag Flag.supports-midi2-protocol on) «record» ⌝ }
 {
     match of_numbers(record) {
-        Given::Message(message) => of_edited(message.set_supports_midi2_protocol(on)),
+        Given::Message(message) => of_edited(message.set_supports_midi2_protocol(on), record),
         Given::Refused(refusal) => refused_record(refusal, record),
     }
 }
@@ -138,7 +138,7 @@ pub extern "C" fn frayedbin_record_set_supports_midi1_protocol(
     ensures { λ r. ⌜ r ≡ setIn (λ m. Setting.flag Flag.supports-midi1-protocol on) «record» ⌝ }
 {
     match of_numbers(record) {
-        Given::Message(message) => of_edited(message.set_supports_midi1_protocol(on)),
+        Given::Message(message) => of_edited(message.set_supports_midi1_protocol(on), record),
         Given::Refused(refusal) => refused_record(refusal, record),
     }
 }
@@ -151,7 +151,10 @@ pub extern "C" fn frayedbin_record_set_supports_receiving_jr_timestamps(
     ensures { λ r. ⌜ r ≡ setIn (λ m. Setting.flag Flag.supports-receiving-jr-timestamps on) «record» ⌝ }
 {
     match of_numbers(record) {
-        Given::Message(message) => of_edited(message.set_supports_receiving_jr_timestamps(on)),
+        Given::Message(message) => of_edited(
+            message.set_supports_receiving_jr_timestamps(on),
+            record,
+        ),
         Given::Refused(refusal) => refused_record(refusal, record),
     }
 }
@@ -164,7 +167,10 @@ pub extern "C" fn frayedbin_record_set_supports_sending_jr_timestamps(
     ensures { λ r. ⌜ r ≡ setIn (λ m. Setting.flag Flag.supports-sending-jr-timestamps on) «record» ⌝ }
 {
     match of_numbers(record) {
-        Given::Message(message) => of_edited(message.set_supports_sending_jr_timestamps(on)),
+        Given::Message(message) => of_edited(
+            message.set_supports_sending_jr_timestamps(on),
+            record,
+        ),
         Given::Refused(refusal) => refused_record(refusal, record),
     }
 }
@@ -177,7 +183,7 @@ pub extern "C" fn frayedbin_record_set_number_of_function_blocks(
     ensures { λ r. ⌜ r ≡ setIn (λ m. Setting.number Number.number-of-function-blocks number) «record» ⌝ }
 {
     match of_numbers(record) {
-        Given::Message(message) => of_edited(message.set_number_of_function_blocks(number)),
+        Given::Message(message) => of_edited(message.set_number_of_function_blocks(number), record),
         Given::Refused(refusal) => refused_record(refusal, record),
     }
 }

@@ -136,7 +136,7 @@ pub extern "C" fn frayedbin_record_set_active(record: Numbers, on: bool) -> Reco
     ensures { λ r. ⌜ r ≡ setIn (λ m. Setting.flag Flag.active on) «record» ⌝ }
 {
     match of_numbers(record) {
-        Given::Message(message) => of_edited(message.set_active(on)),
+        Given::Message(message) => of_edited(message.set_active(on), record),
         Given::Refused(refusal) => refused_record(refusal, record),
     }
 }
@@ -149,7 +149,7 @@ pub extern "C" fn frayedbin_record_set_function_block_number(
     ensures { λ r. ⌜ r ≡ setIn (λ m. Setting.number Number.function-block-number number) «record» ⌝ }
 {
     match of_numbers(record) {
-        Given::Message(message) => of_edited(message.set_function_block_number(number)),
+        Given::Message(message) => of_edited(message.set_function_block_number(number), record),
         Given::Refused(refusal) => refused_record(refusal, record),
     }
 }
@@ -160,7 +160,7 @@ pub extern "C" fn frayedbin_record_set_ui_hint(record: Numbers, code: u32) -> Re
 {
     match hint_given(code) {
         HintGiven::Is(hint) => match of_numbers(record) {
-            Given::Message(message) => of_edited(message.set_ui_hint(hint)),
+            Given::Message(message) => of_edited(message.set_ui_hint(hint), record),
             Given::Refused(refusal) => refused_record(refusal, record),
         },
         HintGiven::Refused(refusal) => refused_record(refusal, record),
@@ -173,7 +173,7 @@ pub extern "C" fn frayedbin_record_set_midi1_port(record: Numbers, code: u32) ->
 {
     match port_given(code) {
         PortGiven::Is(port) => match of_numbers(record) {
-            Given::Message(message) => of_edited(message.set_midi1_port(port)),
+            Given::Message(message) => of_edited(message.set_midi1_port(port), record),
             Given::Refused(refusal) => refused_record(refusal, record),
         },
         PortGiven::Refused(refusal) => refused_record(refusal, record),
@@ -186,7 +186,7 @@ pub extern "C" fn frayedbin_record_set_direction(record: Numbers, code: u32) -> 
 {
     match direction_given(code) {
         DirectionGiven::Is(direction) => match of_numbers(record) {
-            Given::Message(message) => of_edited(message.set_direction(direction)),
+            Given::Message(message) => of_edited(message.set_direction(direction), record),
             Given::Refused(refusal) => refused_record(refusal, record),
         },
         DirectionGiven::Refused(refusal) => refused_record(refusal, record),
@@ -198,7 +198,7 @@ pub extern "C" fn frayedbin_record_set_first_group(record: Numbers, group: u32) 
     ensures { λ r. ⌜ r ≡ setIn (λ m. Setting.number Number.first-group group) «record» ⌝ }
 {
     match of_numbers(record) {
-        Given::Message(message) => of_edited(message.set_first_group(group)),
+        Given::Message(message) => of_edited(message.set_first_group(group), record),
         Given::Refused(refusal) => refused_record(refusal, record),
     }
 }
@@ -211,7 +211,7 @@ pub extern "C" fn frayedbin_record_set_number_of_groups_spanned(
     ensures { λ r. ⌜ r ≡ setIn (λ m. Setting.number Number.number-of-groups-spanned number) «record» ⌝ }
 {
     match of_numbers(record) {
-        Given::Message(message) => of_edited(message.set_number_of_groups_spanned(number)),
+        Given::Message(message) => of_edited(message.set_number_of_groups_spanned(number), record),
         Given::Refused(refusal) => refused_record(refusal, record),
     }
 }
@@ -224,7 +224,7 @@ pub extern "C" fn frayedbin_record_set_midi_ci_version(
     ensures { λ r. ⌜ r ≡ setIn (λ m. Setting.number Number.midi-ci-version version) «record» ⌝ }
 {
     match of_numbers(record) {
-        Given::Message(message) => of_edited(message.set_midi_ci_version(version)),
+        Given::Message(message) => of_edited(message.set_midi_ci_version(version), record),
         Given::Refused(refusal) => refused_record(refusal, record),
     }
 }
@@ -237,7 +237,10 @@ pub extern "C" fn frayedbin_record_set_max_number_of_midi_ci_streams(
     ensures { λ r. ⌜ r ≡ setIn (λ m. Setting.number Number.max-number-of-midi-ci-streams number) «record» ⌝ }
 {
     match of_numbers(record) {
-        Given::Message(message) => of_edited(message.set_max_number_of_midi_ci_streams(number)),
+        Given::Message(message) => of_edited(
+            message.set_max_number_of_midi_ci_streams(number),
+            record,
+        ),
         Given::Refused(refusal) => refused_record(refusal, record),
     }
 }

@@ -40,7 +40,7 @@ pub extern "C" fn frayedbin_record_set_function_block(record: Numbers, number: u
     ensures { λ r. ⌜ r ≡ setIn (λ m. Setting.number Number.function-block number) «record» ⌝ }
 {
     match of_numbers(record) {
-        Given::Message(message) => of_edited(message.set_function_block(number)),
+        Given::Message(message) => of_edited(message.set_function_block(number), record),
         Given::Refused(refusal) => refused_record(refusal, record),
     }
 }

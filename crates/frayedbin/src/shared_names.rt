@@ -19,7 +19,7 @@ pub extern "C" fn frayedbin_record_set_ump_version_major(
     ensures { λ r. ⌜ r ≡ setIn (λ m. Setting.number (majorOf (kindIn m)) version) «record» ⌝ }
 {
     match of_numbers(record) {
-        Given::Message(message) => of_edited(message.set_ump_version_major(version)),
+        Given::Message(message) => of_edited(message.set_ump_version_major(version), record),
         Given::Refused(refusal) => refused_record(refusal, record),
     }
 }
@@ -32,7 +32,7 @@ pub extern "C" fn frayedbin_record_set_ump_version_minor(
     ensures { λ r. ⌜ r ≡ setIn (λ m. Setting.number (minorOf (kindIn m)) version) «record» ⌝ }
 {
     match of_numbers(record) {
-        Given::Message(message) => of_edited(message.set_ump_version_minor(version)),
+        Given::Message(message) => of_edited(message.set_ump_version_minor(version), record),
         Given::Refused(refusal) => refused_record(refusal, record),
     }
 }
@@ -42,7 +42,7 @@ pub extern "C" fn frayedbin_record_set_name(record: Numbers, name: &[u8]) -> Rec
     ensures { λ r. ⌜ r ≡ setIn (λ m. Setting.text (nameOf (kindIn m)) (now (name .entry))) «record» ⌝ }
 {
     match of_numbers(record) {
-        Given::Message(message) => of_edited(message.set_name(name)),
+        Given::Message(message) => of_edited(message.set_name(name), record),
         Given::Refused(refusal) => refused_record(refusal, record),
     }
 }
@@ -52,7 +52,7 @@ pub extern "C" fn frayedbin_record_set_id(record: Numbers, id: &[u8]) -> RecordA
     ensures { λ r. ⌜ r ≡ setIn (λ m. Setting.text Text.product-instance-id (now (id .entry))) «record» ⌝ }
 {
     match of_numbers(record) {
-        Given::Message(message) => of_edited(message.set_id(id)),
+        Given::Message(message) => of_edited(message.set_id(id), record),
         Given::Refused(refusal) => refused_record(refusal, record),
     }
 }

@@ -11,9 +11,6 @@ of-message-requires c κs = search needs
 enum-known-answer : tie.Need-enum-known-answer
 enum-known-answer c = search needs
 
-of-message-requires-2 : tie.Need-of-message-requires-2
-of-message-requires-2 c κs = search needs
-
 refused-record-requires : tie.Need-refused-record-requires
 refused-record-requires c κs = search needs
 
@@ -21,7 +18,7 @@ returns : tie.Need-returns
 returns c = rw (c .before .enum-told .given .1, c .of-message .ensures)
 
 returns-2 : tie.Need-returns-2
-returns-2 c = rw (c .before .before .before .answer .given .1, c .refused-record .ensures, c .before .of-message2 .ensures)
+returns-2 c = rw (c .before .before .answer .given .1, c .refused-record .ensures)
 
 pub of-edited-spec : {M : Type 1} → statement M
 of-edited-spec =
@@ -30,7 +27,6 @@ of-edited-spec =
     enum-told
     of-message-requires
     enum-known-answer
-    of-message-requires-2
     refused-record-requires
     returns
     returns-2)

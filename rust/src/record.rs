@@ -1,0 +1,178 @@
+//! Records: what a message says, apart from its words.
+
+use crate::sys::{self, Numbers};
+use crate::value::Value;
+use crate::{Direction, Kind, Midi1Port, Refusal, UiHint};
+
+/// A message's record: its kind, its packets and its numbers.
+///
+/// Each setting hands the record back, so they can be chained. A setting that the kind lacks is
+/// refusal 13, a number above its field's largest is refusal 12; the record that it was made on
+/// is still there, unchanged. A text kind's record holds no text.
+///
+/// ```
+/// use frayedbin::{Kind, Record, Refusal};
+///
+/// let record = Record::new(Kind::EndpointInfo)
+///     .set_ump_version_major(1)?
+///     .set_ump_version_minor(1)?
+///     .set_static_function_blocks(true)?
+///     .set_number_of_function_blocks(4)?
+///     .set_supports_midi2_protocol(true)?
+///     .set_supports_midi1_protocol(true)?;
+/// let mut words = [0; 4];
+/// record.write(&mut words)?;
+/// assert_eq!(words, [0xF001_0101, 0x8400_0300, 0, 0]);
+/// assert_eq!(record.set_first_group(1), Err(Refusal::NoSuchField));
+/// # Ok::<(), Refusal>(())
+/// ```
+#[derive(Clone, Copy, Debug, PartialEq, Eq, Hash)]
+#[must_use = "a setting on a record hands it back and changes nothing else"]
+pub struct Record {
+    kind: Kind,
+    numbers: Numbers,
+}
+
+/// A method for each setting.
+macro_rules! settings {
+    ($($(#[$doc:meta])+ $name:ident($type:ty) by $call:ident;)+) => {
+        impl Record {
+            $($(#[$doc])+
+            pub fn $name(self, value: $type) -> Result<Record, Refusal> {
+                Record::of(sys::$call(self.numbers, value.crossed())?)
+            })+
+        }
+    };
+}
+
+impl Record {
+    /// The record of a fresh message: one packet, and all fields 0 but a block info's direction,
+    /// which is [`Direction::Bidirectional`].
+    pub fn new(kind: Kind) -> Record {
+        let mut number = [0; 9];
+        if kind == Kind::FunctionBlockInfo {
+            number[4] = Direction::default().crossed();
+        }
+        let status = kind.status().into();
+        let packets = 1;
+        Record {
+            kind,
+            numbers: Numbers {
+                status,
+                packets,
+                number,
+            },
+        }
+    }
+
+    /// A record of numbers that came over.
+    pub(crate) fn of(numbers: Numbers) -> Result<Record, Refusal> {
+        let kind = Kind::try_from(numbers.status as u16)?;
+        Ok(Record { kind, numbers })
+    }
+
+    /// The field whose numbers start at a place.
+    pub(crate) fn field<T: Value>(&self, at: usize) -> T {
+        T::of(&self.numbers.number[at..])
+    }
+
+    /// The message's kind.
+    #[must_use]
+    pub fn kind(&self) -> Kind {
+        self.kind
+    }
+
+    /// How many packets the message takes, 1 to 64.
+    #[must_use]
+    pub fn packets(&self) -> usize {
+        self.numbers.packets
+    }
+
+    /// The numbers of the kind's fields, in the order of its methods: a flag is 0 or 1, a
+    /// choice is its code, a manufacturer is three numbers and a software version four.
+    #[must_use]
+    pub fn numbers(&self) -> &[u32] {
+        let count = match self.kind {
+            Kind::EndpointDiscovery => 7,
+            Kind::EndpointInfo => 8,
+            Kind::DeviceIdentity | Kind::FunctionBlockInfo => 9,
+            Kind::EndpointName | Kind::ProductInstanceId => 0,
+            Kind::FunctionBlockName => 1,
+        };
+        &self.numbers.number[..count]
+    }
+
+    /// Writes the record as a fresh message with its fields. A text kind is refusal 13, and a
+    /// buffer with no whole packet refusal 14.
+    pub fn write(&self, words: &mut [u32]) -> Result<(), Refusal> {
+        sys::write(words, self.numbers)
+    }
+
+    /// Refusal 13: a record holds no text.
+    pub fn set_name(self, name: impl AsRef<[u8]>) -> Result<Record, Refusal> {
+        Record::of(sys::frayedbin_record_set_name(self.numbers, name.as_ref())?)
+    }
+
+    /// Refusal 13: a record holds no text.
+    pub fn set_id(self, id: impl AsRef<[u8]>) -> Result<Record, Refusal> {
+        Record::of(sys::frayedbin_record_set_id(self.numbers, id.as_ref())?)
+    }
+}
+
+settings! {
+    /// Sets the major version of UMP, of an endpoint discovery or an endpoint info.
+    set_ump_version_major(u8) by frayedbin_record_set_ump_version_major;
+    /// Sets the minor version of UMP, of an endpoint discovery or an endpoint info.
+    set_ump_version_minor(u8) by frayedbin_record_set_ump_version_minor;
+    /// Sets whether an endpoint discovery asks for the endpoint info.
+    set_request_endpoint_info(bool) by frayedbin_record_set_request_endpoint_info;
+    /// Sets whether an endpoint discovery asks for the device identity.
+    set_request_device_identity(bool) by frayedbin_record_set_request_device_identity;
+    /// Sets whether an endpoint discovery asks for the endpoint name.
+    set_request_endpoint_name(bool) by frayedbin_record_set_request_endpoint_name;
+    /// Sets whether an endpoint discovery asks for the product instance id.
+    set_request_product_instance_id(bool) by frayedbin_record_set_request_product_instance_id;
+    /// Sets whether an endpoint discovery asks for the stream configuration.
+    set_request_stream_configuration(bool) by frayedbin_record_set_request_stream_configuration;
+    /// Sets whether an endpoint's function blocks never change.
+    set_static_function_blocks(bool) by frayedbin_record_set_static_function_blocks;
+    /// Sets whether an endpoint supports the MIDI 2.0 protocol.
+    set_supports_midi2_protocol(bool) by frayedbin_record_set_supports_midi2_protocol;
+    /// Sets whether an endpoint supports the MIDI 1.0 protocol.
+    set_supports_midi1_protocol(bool) by frayedbin_record_set_supports_midi1_protocol;
+    /// Sets whether an endpoint can receive jitter reduction timestamps.
+    set_supports_receiving_jr_timestamps(bool)
+        by frayedbin_record_set_supports_receiving_jr_timestamps;
+    /// Sets whether an endpoint can send jitter reduction timestamps.
+    set_supports_sending_jr_timestamps(bool) by frayedbin_record_set_supports_sending_jr_timestamps;
+    /// Sets an endpoint's number of function blocks, at most 127.
+    set_number_of_function_blocks(u8) by frayedbin_record_set_number_of_function_blocks;
+    /// Sets a device's manufacturer, three numbers of at most 127.
+    set_device_manufacturer([u8; 3]) by frayedbin_record_set_device_manufacturer;
+    /// Sets a device's family, at most 16,383.
+    set_device_family(u16) by frayedbin_record_set_device_family;
+    /// Sets a device's model within the family, at most 16,383.
+    set_device_family_model_number(u16) by frayedbin_record_set_device_family_model_number;
+    /// Sets a device's software version, four numbers of at most 127.
+    set_software_version([u8; 4]) by frayedbin_record_set_software_version;
+    /// Sets whether a function block is active.
+    set_active(bool) by frayedbin_record_set_active;
+    /// Sets the number of the block that a function block info is about, at most 127.
+    set_function_block_number(u8) by frayedbin_record_set_function_block_number;
+    /// Sets what users may take a function block for.
+    set_ui_hint(UiHint) by frayedbin_record_set_ui_hint;
+    /// Sets whether a function block is a MIDI 1.0 port.
+    set_midi1_port(Option<Midi1Port>) by frayedbin_record_set_midi1_port;
+    /// Sets where a function block's messages go.
+    set_direction(Direction) by frayedbin_record_set_direction;
+    /// Sets a function block's first group, at most 15.
+    set_first_group(u8) by frayedbin_record_set_first_group;
+    /// Sets how many groups a function block spans.
+    set_number_of_groups_spanned(u8) by frayedbin_record_set_number_of_groups_spanned;
+    /// Sets a function block's MIDI-CI version.
+    set_midi_ci_version(u8) by frayedbin_record_set_midi_ci_version;
+    /// Sets the most MIDI-CI streams that a function block has at a time.
+    set_max_number_of_midi_ci_streams(u8) by frayedbin_record_set_max_number_of_midi_ci_streams;
+    /// Sets the number of the block that a function block name is about.
+    set_function_block(u8) by frayedbin_record_set_function_block;
+}

@@ -1,0 +1,225 @@
+//! Messages of any of the seven kinds, and a stream of them.
+
+use crate::message::Message;
+use crate::sys::{self, FOUND_END, FOUND_OTHER};
+use crate::{
+    DeviceIdentity, EndpointDiscovery, EndpointInfo, EndpointName, FunctionBlockInfo,
+    FunctionBlockName, Kind, ProductInstanceId, Record, Refusal,
+};
+use std::fmt;
+use std::iter::FusedIterator;
+
+/// A message of one of the seven kinds.
+///
+/// ```
+/// use frayedbin::UmpStream;
+///
+/// let words = [0xF012_0541, 0, 0, 0];
+/// match UmpStream::read(words)? {
+///     UmpStream::FunctionBlockName(name) => {
+///         assert_eq!(name.function_block(), 5);
+///         assert_eq!(name.name(), "A");
+///     }
+///     other => panic!("{other:?}"),
+/// }
+/// # Ok::<(), frayedbin::Refusal>(())
+/// ```
+#[derive(Clone, Copy)]
+#[non_exhaustive]
+pub enum UmpStream<B> {
+    /// Status 0x00.
+    EndpointDiscovery(EndpointDiscovery<B>),
+    /// Status 0x01.
+    EndpointInfo(EndpointInfo<B>),
+    /// Status 0x02.
+    DeviceIdentity(DeviceIdentity<B>),
+    /// Status 0x03.
+    EndpointName(EndpointName<B>),
+    /// Status 0x04.
+    ProductInstanceId(ProductInstanceId<B>),
+    /// Status 0x11.
+    FunctionBlockInfo(FunctionBlockInfo<B>),
+    /// Status 0x12.
+    FunctionBlockName(FunctionBlockName<B>),
+}
+
+impl<B> UmpStream<B> {
+    /// The typed message of a record's kind.
+    fn of(message: Message<B>) -> UmpStream<B> {
+        match message.record.kind() {
+            Kind::EndpointDiscovery => UmpStream::EndpointDiscovery(EndpointDiscovery(message)),
+            Kind::EndpointInfo => UmpStream::EndpointInfo(EndpointInfo(message)),
+            Kind::DeviceIdentity => UmpStream::DeviceIdentity(DeviceIdentity(message)),
+            Kind::EndpointName => UmpStream::EndpointName(EndpointName(message)),
+            Kind::ProductInstanceId => UmpStream::ProductInstanceId(ProductInstanceId(message)),
+            Kind::FunctionBlockInfo => UmpStream::FunctionBlockInfo(FunctionBlockInfo(message)),
+            Kind::FunctionBlockName => UmpStream::FunctionBlockName(FunctionBlockName(message)),
+        }
+    }
+
+    fn message(&self) -> &Message<B> {
+        match self {
+            UmpStream::EndpointDiscovery(m) => &m.0,
+            UmpStream::EndpointInfo(m) => &m.0,
+            UmpStream::DeviceIdentity(m) => &m.0,
+            UmpStream::EndpointName(m) => &m.0,
+            UmpStream::ProductInstanceId(m) => &m.0,
+            UmpStream::FunctionBlockInfo(m) => &m.0,
+            UmpStream::FunctionBlockName(m) => &m.0,
+        }
+    }
+
+    /// What the message says, as a record, with its kind.
+    pub fn record(&self) -> Record {
+        self.message().record
+    }
+}
+
+impl<B: AsRef<[u32]>> UmpStream<B> {
+    /// Reads a buffer that should be one message and nothing else.
+    pub fn read(buffer: B) -> Result<UmpStream<B>, Refusal> {
+        let record = Record::of(sys::read(buffer.as_ref())?)?;
+        Ok(UmpStream::of(Message { buffer, record }))
+    }
+
+    /// The message's words.
+    #[must_use]
+    pub fn data(&self) -> &[u32] {
+        self.message().data()
+    }
+}
+
+/// Reads a slice that should be one message and nothing else.
+impl<'a> TryFrom<&'a [u32]> for UmpStream<&'a [u32]> {
+    type Error = Refusal;
+
+    fn try_from(words: &'a [u32]) -> Result<Self, Refusal> {
+        UmpStream::read(words)
+    }
+}
+
+/// Messages are equal where their words are, whatever else is in their buffers.
+impl<A: AsRef<[u32]>, B: AsRef<[u32]>> PartialEq<UmpStream<B>> for UmpStream<A> {
+    fn eq(&self, other: &UmpStream<B>) -> bool {
+        self.data() == other.data()
+    }
+}
+
+impl<B: AsRef<[u32]>> Eq for UmpStream<B> {}
+
+/// As the typed message: its name says the kind.
+impl<B: AsRef<[u32]>> fmt::Debug for UmpStream<B> {
+    fn fmt(&self, f: &mut fmt::Formatter<'_>) -> fmt::Result {
+        match self {
+            UmpStream::EndpointDiscovery(m) => m.fmt(f),
+            UmpStream::EndpointInfo(m) => m.fmt(f),
+            UmpStream::DeviceIdentity(m) => m.fmt(f),
+            UmpStream::EndpointName(m) => m.fmt(f),
+            UmpStream::ProductInstanceId(m) => m.fmt(f),
+            UmpStream::FunctionBlockInfo(m) => m.fmt(f),
+            UmpStream::FunctionBlockName(m) => m.fmt(f),
+        }
+    }
+}
+
+/// What stands at a word position of a stream.
+#[derive(Clone, Copy, Debug, PartialEq, Eq)]
+pub enum Found<'a> {
+    /// A message of another type, and its words.
+    Other {
+        /// The type, 0 to 14.
+        ump_type: u8,
+        /// The words that messages of this type take.
+        words: &'a [u32],
+    },
+    /// A message of one of the seven kinds.
+    Message(UmpStream<&'a [u32]>),
+    /// What is neither, and why.
+    Refused(Refusal),
+}
+
+/// The messages of a stream: for each its word position, and what stands there.
+///
+/// A refusal ends nothing: the walk goes on after what was refused.
+///
+/// ```
+/// use frayedbin::{Found, Messages, Refusal, UmpStream};
+///
+/// let stream = [0x10F8_0000, 0xF011_0003, 0, 0, 0, 0xF011_0000, 0, 0, 0];
+/// let mut messages = Messages::new(&stream);
+/// assert!(matches!(messages.next(), Some((0, Found::Other { ump_type: 1, .. }))));
+/// assert!(matches!(messages.next(), Some((1, Found::Message(UmpStream::FunctionBlockInfo(_))))));
+/// assert_eq!(messages.next(), Some((5, Found::Refused(Refusal::BadDirection))));
+/// assert_eq!(messages.next(), None);
+/// ```
+#[derive(Clone, Debug)]
+#[must_use = "iterators are lazy"]
+pub struct Messages<'a> {
+    words: &'a [u32],
+    position: usize,
+}
+
+impl<'a> Messages<'a> {
+    /// The messages of some words, from the start.
+    pub fn new(words: &'a [u32]) -> Messages<'a> {
+        Messages::at(words, 0)
+    }
+
+    /// The messages from a word position on.
+    pub fn at(words: &'a [u32], position: usize) -> Messages<'a> {
+        Messages { words, position }
+    }
+
+    /// The word position that comes next.
+    #[must_use]
+    pub fn position(&self) -> usize {
+        self.position
+    }
+}
+
+impl<'a> Iterator for Messages<'a> {
+    type Item = (usize, Found<'a>);
+
+    fn next(&mut self) -> Option<(usize, Found<'a>)> {
+        let position = self.position;
+        let answer = sys::walk(self.words, position);
+        if answer.found == FOUND_END {
+            return None;
+        }
+        self.position = answer.next;
+        let words = self.words.get(position..answer.next).unwrap_or(&[]);
+        let found = match answer.found {
+            FOUND_OTHER => Found::Other {
+                ump_type: answer.ump_type as u8,
+                words,
+            },
+            _ => match found_message(&answer) {
+                Ok(record) => Found::Message(UmpStream::of(Message {
+                    buffer: words,
+                    record,
+                })),
+                Err(refusal) => Found::Refused(refusal),
+            },
+        };
+        Some((position, found))
+    }
+}
+
+impl FusedIterator for Messages<'_> {}
+
+/// The record of a message that was found, or why there is none.
+fn found_message(answer: &sys::WalkAnswer) -> Result<Record, Refusal> {
+    Refusal::check(answer.refusal, answer.place)?;
+    Record::of(answer.record)
+}
+
+/// The record of the message that some words start with. Refused as a setting on them would be:
+/// no words are refusal 1, another type is refusal 4.
+pub(crate) fn first_of(words: &[u32]) -> Result<Record, Refusal> {
+    let answer = sys::walk(words, 0);
+    match answer.found {
+        FOUND_END => Err(Refusal::TooFewWords),
+        FOUND_OTHER => Err(Refusal::WrongType(0)),
+        _ => found_message(&answer),
+    }
+}

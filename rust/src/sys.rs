@@ -1,0 +1,356 @@
+//! The library's functions and structs, as in c/frayedbin.h, made safe: the only unsafe code.
+//!
+//! Every call takes any slice and any numbers, ends with an answer, keeps no pointer and writes
+//! only to the slice that it is lent to write to. An empty Rust slice has a pointer that is
+//! aligned and not null, which is all that the library asks of one.
+
+#![allow(unsafe_code)]
+
+use crate::Refusal;
+
+pub const FOUND_END: u32 = 0;
+pub const FOUND_OTHER: u32 = 1;
+
+/// A record as it crosses.
+#[repr(C)]
+#[derive(Clone, Copy, Debug, PartialEq, Eq, Hash)]
+pub struct Numbers {
+    pub status: u32,
+    pub packets: usize,
+    pub number: [u32; 9],
+}
+
+#[repr(C)]
+struct Answer {
+    refusal: u32,
+    place: usize,
+}
+
+#[repr(C)]
+struct RecordAnswer {
+    refusal: u32,
+    place: usize,
+    record: Numbers,
+}
+
+#[repr(C)]
+pub struct WalkAnswer {
+    pub found: u32,
+    pub refusal: u32,
+    pub place: usize,
+    pub ump_type: u32,
+    pub size: usize,
+    pub next: usize,
+    pub record: Numbers,
+}
+
+#[repr(C)]
+struct PacketAnswer {
+    refusal: u32,
+    place: usize,
+    format: u32,
+    word: [u32; 4],
+}
+
+#[repr(C)]
+struct SizeAnswer {
+    refusal: u32,
+    place: usize,
+    words: usize,
+}
+
+#[repr(C)]
+pub struct StepAnswer {
+    pub byte: u32,
+    pub packet: usize,
+    pub byte_number: usize,
+}
+
+impl Answer {
+    fn done(self) -> Result<(), Refusal> {
+        Refusal::check(self.refusal, self.place)
+    }
+}
+
+impl RecordAnswer {
+    fn record(self) -> Result<Numbers, Refusal> {
+        Refusal::check(self.refusal, self.place).map(|()| self.record)
+    }
+}
+
+extern "C" {
+    fn frayedbin_read(words: *const u32, length: usize) -> RecordAnswer;
+    fn frayedbin_walk(words: *const u32, length: usize, position: usize) -> WalkAnswer;
+    fn frayedbin_packet(words: *const u32, length: usize) -> PacketAnswer;
+    fn frayedbin_message_size(words: *const u32, length: usize) -> SizeAnswer;
+    fn frayedbin_next_byte(
+        words: *const u32,
+        length: usize,
+        packet: usize,
+        byte_number: usize,
+    ) -> StepAnswer;
+    fn frayedbin_list(bytes: *const u8, length: usize, out: *mut u8, room: usize) -> usize;
+    fn frayedbin_fresh(words: *mut u32, length: usize, status: u32) -> Answer;
+    fn frayedbin_write(words: *mut u32, length: usize, record: Numbers) -> Answer;
+}
+
+pub fn read(words: &[u32]) -> Result<Numbers, Refusal> {
+    // SAFETY: a slice's pointer and length, lent for the call.
+    unsafe { frayedbin_read(words.as_ptr(), words.len()) }.record()
+}
+
+pub fn walk(words: &[u32], position: usize) -> WalkAnswer {
+    // SAFETY: a slice's pointer and length, lent for the call.
+    unsafe { frayedbin_walk(words.as_ptr(), words.len(), position) }
+}
+
+/// The packet's words and its format's code.
+pub fn packet(words: &[u32]) -> Result<([u32; 4], u32), Refusal> {
+    // SAFETY: a slice's pointer and length, lent for the call.
+    let answer = unsafe { frayedbin_packet(words.as_ptr(), words.len()) };
+    Refusal::check(answer.refusal, answer.place).map(|()| (answer.word, answer.format))
+}
+
+pub fn message_size(words: &[u32]) -> Result<usize, Refusal> {
+    // SAFETY: a slice's pointer and length, lent for the call.
+    let answer = unsafe { frayedbin_message_size(words.as_ptr(), words.len()) };
+    Refusal::check(answer.refusal, answer.place).map(|()| answer.words)
+}
+
+pub fn next_byte(words: &[u32], packet: usize, byte_number: usize) -> StepAnswer {
+    // SAFETY: a slice's pointer and length, lent for the call.
+    unsafe { frayedbin_next_byte(words.as_ptr(), words.len(), packet, byte_number) }
+}
+
+/// How many bytes of `out` the listing took.
+pub fn list(bytes: &[u8], out: &mut [u8]) -> usize {
+    // SAFETY: two slices' pointers and lengths, lent for the call; they do not overlap.
+    unsafe { frayedbin_list(bytes.as_ptr(), bytes.len(), out.as_mut_ptr(), out.len()) }
+}
+
+pub fn fresh(words: &mut [u32], status: u32) -> Result<(), Refusal> {
+    // SAFETY: a slice's pointer and length, lent for the call.
+    unsafe { frayedbin_fresh(words.as_mut_ptr(), words.len(), status) }.done()
+}
+
+pub fn write(words: &mut [u32], record: Numbers) -> Result<(), Refusal> {
+    // SAFETY: a slice's pointer and length, lent for the call.
+    unsafe { frayedbin_write(words.as_mut_ptr(), words.len(), record) }.done()
+}
+
+/// A safe function for each setting of one value on words.
+macro_rules! on_words {
+    ($($name:ident($type:ty);)+) => {
+        $(pub fn $name(words: &mut [u32], value: $type) -> Result<(), Refusal> {
+            extern "C" {
+                fn $name(words: *mut u32, length: usize, value: $type) -> Answer;
+            }
+            // SAFETY: a slice's pointer and length, lent for the call.
+            unsafe { $name(words.as_mut_ptr(), words.len(), value) }.done()
+        })+
+    };
+}
+
+/// A safe function for each setting of a text on words.
+macro_rules! text_on_words {
+    ($($name:ident;)+) => {
+        $(pub fn $name(words: &mut [u32], text: &[u8]) -> Result<(), Refusal> {
+            extern "C" {
+                fn $name(words: *mut u32, length: usize, text: *const u8, size: usize) -> Answer;
+            }
+            // SAFETY: two slices' pointers and lengths, lent for the call; they do not overlap.
+            unsafe { $name(words.as_mut_ptr(), words.len(), text.as_ptr(), text.len()) }.done()
+        })+
+    };
+}
+
+/// A safe function for each setting of one value on a record.
+macro_rules! on_record {
+    ($($name:ident($type:ty);)+) => {
+        $(pub fn $name(record: Numbers, value: $type) -> Result<Numbers, Refusal> {
+            extern "C" {
+                fn $name(record: Numbers, value: $type) -> RecordAnswer;
+            }
+            // SAFETY: numbers alone cross.
+            unsafe { $name(record, value) }.record()
+        })+
+    };
+}
+
+/// A safe function for each setting of a text on a record.
+macro_rules! text_on_record {
+    ($($name:ident;)+) => {
+        $(pub fn $name(record: Numbers, text: &[u8]) -> Result<Numbers, Refusal> {
+            extern "C" {
+                fn $name(record: Numbers, text: *const u8, size: usize) -> RecordAnswer;
+            }
+            // SAFETY: a slice's pointer and length, lent for the call.
+            unsafe { $name(record, text.as_ptr(), text.len()) }.record()
+        })+
+    };
+}
+
+on_words! {
+    frayedbin_endpoint_discovery_set_ump_version_major(u32);
+    frayedbin_endpoint_discovery_set_ump_version_minor(u32);
+    frayedbin_endpoint_discovery_set_request_endpoint_info(bool);
+    frayedbin_endpoint_discovery_set_request_device_identity(bool);
+    frayedbin_endpoint_discovery_set_request_endpoint_name(bool);
+    frayedbin_endpoint_discovery_set_request_product_instance_id(bool);
+    frayedbin_endpoint_discovery_set_request_stream_configuration(bool);
+    frayedbin_endpoint_info_set_ump_version_major(u32);
+    frayedbin_endpoint_info_set_ump_version_minor(u32);
+    frayedbin_endpoint_info_set_static_function_blocks(bool);
+    frayedbin_endpoint_info_set_supports_midi2_protocol(bool);
+    frayedbin_endpoint_info_set_supports_midi1_protocol(bool);
+    frayedbin_endpoint_info_set_supports_receiving_jr_timestamps(bool);
+    frayedbin_endpoint_info_set_supports_sending_jr_timestamps(bool);
+    frayedbin_endpoint_info_set_number_of_function_blocks(u32);
+    frayedbin_device_identity_set_device_family(u32);
+    frayedbin_device_identity_set_device_family_model_number(u32);
+    frayedbin_function_block_info_set_active(bool);
+    frayedbin_function_block_info_set_function_block_number(u32);
+    frayedbin_function_block_info_set_ui_hint(u32);
+    frayedbin_function_block_info_set_midi1_port(u32);
+    frayedbin_function_block_info_set_direction(u32);
+    frayedbin_function_block_info_set_first_group(u32);
+    frayedbin_function_block_info_set_number_of_groups_spanned(u32);
+    frayedbin_function_block_info_set_midi_ci_version(u32);
+    frayedbin_function_block_info_set_max_number_of_midi_ci_streams(u32);
+    frayedbin_function_block_name_set_function_block(u32);
+}
+
+text_on_words! {
+    frayedbin_endpoint_name_set_name;
+    frayedbin_product_instance_id_set_id;
+    frayedbin_function_block_name_set_name;
+}
+
+on_record! {
+    frayedbin_record_set_ump_version_major(u32);
+    frayedbin_record_set_ump_version_minor(u32);
+    frayedbin_record_set_request_endpoint_info(bool);
+    frayedbin_record_set_request_device_identity(bool);
+    frayedbin_record_set_request_endpoint_name(bool);
+    frayedbin_record_set_request_product_instance_id(bool);
+    frayedbin_record_set_request_stream_configuration(bool);
+    frayedbin_record_set_static_function_blocks(bool);
+    frayedbin_record_set_supports_midi2_protocol(bool);
+    frayedbin_record_set_supports_midi1_protocol(bool);
+    frayedbin_record_set_supports_receiving_jr_timestamps(bool);
+    frayedbin_record_set_supports_sending_jr_timestamps(bool);
+    frayedbin_record_set_number_of_function_blocks(u32);
+    frayedbin_record_set_device_family(u32);
+    frayedbin_record_set_device_family_model_number(u32);
+    frayedbin_record_set_active(bool);
+    frayedbin_record_set_function_block_number(u32);
+    frayedbin_record_set_ui_hint(u32);
+    frayedbin_record_set_midi1_port(u32);
+    frayedbin_record_set_direction(u32);
+    frayedbin_record_set_first_group(u32);
+    frayedbin_record_set_number_of_groups_spanned(u32);
+    frayedbin_record_set_midi_ci_version(u32);
+    frayedbin_record_set_max_number_of_midi_ci_streams(u32);
+    frayedbin_record_set_function_block(u32);
+}
+
+text_on_record! {
+    frayedbin_record_set_name;
+    frayedbin_record_set_id;
+}
+
+pub fn frayedbin_device_identity_set_device_manufacturer(
+    words: &mut [u32],
+    value: [u32; 3],
+) -> Result<(), Refusal> {
+    extern "C" {
+        fn frayedbin_device_identity_set_device_manufacturer(
+            words: *mut u32,
+            length: usize,
+            a: u32,
+            b: u32,
+            c: u32,
+        ) -> Answer;
+    }
+    let [a, b, c] = value;
+    // SAFETY: a slice's pointer and length, lent for the call.
+    unsafe {
+        frayedbin_device_identity_set_device_manufacturer(words.as_mut_ptr(), words.len(), a, b, c)
+    }
+    .done()
+}
+
+pub fn frayedbin_device_identity_set_software_version(
+    words: &mut [u32],
+    value: [u32; 4],
+) -> Result<(), Refusal> {
+    extern "C" {
+        fn frayedbin_device_identity_set_software_version(
+            words: *mut u32,
+            length: usize,
+            a: u32,
+            b: u32,
+            c: u32,
+            d: u32,
+        ) -> Answer;
+    }
+    let [a, b, c, d] = value;
+    // SAFETY: a slice's pointer and length, lent for the call.
+    unsafe {
+        frayedbin_device_identity_set_software_version(words.as_mut_ptr(), words.len(), a, b, c, d)
+    }
+    .done()
+}
+
+pub fn frayedbin_record_set_device_manufacturer(
+    record: Numbers,
+    value: [u32; 3],
+) -> Result<Numbers, Refusal> {
+    extern "C" {
+        fn frayedbin_record_set_device_manufacturer(
+            record: Numbers,
+            a: u32,
+            b: u32,
+            c: u32,
+        ) -> RecordAnswer;
+    }
+    let [a, b, c] = value;
+    // SAFETY: numbers alone cross.
+    unsafe { frayedbin_record_set_device_manufacturer(record, a, b, c) }.record()
+}
+
+pub fn frayedbin_record_set_software_version(
+    record: Numbers,
+    value: [u32; 4],
+) -> Result<Numbers, Refusal> {
+    extern "C" {
+        fn frayedbin_record_set_software_version(
+            record: Numbers,
+            a: u32,
+            b: u32,
+            c: u32,
+            d: u32,
+        ) -> RecordAnswer;
+    }
+    let [a, b, c, d] = value;
+    // SAFETY: numbers alone cross.
+    unsafe { frayedbin_record_set_software_version(record, a, b, c, d) }.record()
+}
+
+#[cfg(test)]
+mod tests {
+    use super::*;
+    use std::mem::size_of;
+
+    /// The sizes that a C compiler for x86-64 gives the structs of c/frayedbin.h.
+    #[test]
+    fn structs_have_the_sizes_of_c() {
+        assert_eq!(size_of::<Numbers>(), 56);
+        assert_eq!(size_of::<Answer>(), 16);
+        assert_eq!(size_of::<RecordAnswer>(), 72);
+        assert_eq!(size_of::<WalkAnswer>(), 96);
+        assert_eq!(size_of::<PacketAnswer>(), 40);
+        assert_eq!(size_of::<SizeAnswer>(), 24);
+        assert_eq!(size_of::<StepAnswer>(), 24);
+    }
+}
