@@ -14,3 +14,4 @@ pub mod Encode
 pub mod Lists
 pub mod Settings
 pub mod Writing
+pub mod Outcomes

@@ -84,7 +84,7 @@ fn put_kind(
     pool: &[u8],
     all: &mut [u64],
 ) -> usize {
-    let mut tally = [0u64; 9];
+    let mut tally = [0u64; 10];
     in_4(kind, pool, &mut tally);
     in_7(kind, pool, &mut tally);
     in_13(kind, pool, &mut tally);
@@ -96,7 +96,7 @@ fn put_kind(
 
 // The line of the year, and its tally added to that of all.
 fn put_year(out: &mut [u8], at: usize, pool: &[u8], all: &mut [u64]) -> usize {
-    let mut tally = [0u64; 9];
+    let mut tally = [0u64; 10];
     year(pool, &mut tally);
     add(all, &tally);
     put_tally(out, at, b"renames-of-a-year", &tally)
@@ -120,11 +120,11 @@ fn put_block(out: &mut [u8], at: usize, pool: &[u8], all: &mut [u64]) -> usize {
 }
 
 fn put_all(out: &mut [u8], pool: &[u8]) -> usize {
-    let mut all = [0u64; 9];
+    let mut all = [0u64; 10];
     let head = lines::put_text(
         out,
         0,
-        b"run made accepted refused differed by-3 by-11 by-12 by-13 by-14\n",
+        b"run made accepted refused differed by-3 by-11 by-12 by-13 by-14 by-others\n",
     );
     let a = put_endpoint(out, head, pool, &mut all);
     let b = put_texts(out, a, pool, &mut all);

@@ -1,8 +1,8 @@
-// What came of a run: settings made, accepted, refused, how often the words differed, and those refused by 3, 11, 12, 13 and 14.
+// What came of a run: settings made, accepted, refused, how often the words differed, and those refused by 3, 11, 12, 13, 14 and others.
 use kinds::refusal::refusal_number;
 use records::answers::Answer;
 
-// One more in a column; there is none from 9 on.
+// One more in a column; there is none from 10 on.
 fn count(tally: &mut [u64], at: usize) {
     if at < tally.len() {
         tally[at] = std::num::wrapping_add_u64(tally[at], 1);
@@ -16,10 +16,10 @@ fn outcome(answer: Answer) -> usize {
     }
 }
 
-// The column of a refusal's number; on a fresh message no other comes.
+// The column of a refusal's number; on a fresh message only those five come.
 fn column(answer: Answer) -> usize {
     let Answer::Refused(refusal) = answer else {
-        return 9;
+        return 10;
     };
     match refusal_number(refusal) {
         3 => 4,
@@ -32,7 +32,7 @@ fn column(answer: Answer) -> usize {
 }
 
 fn difference(same: bool) -> usize {
-    if same { 9 } else { 3 }
+    if same { 10 } else { 3 }
 }
 
 // A setting more, and whether the words were the same after it.
