@@ -423,6 +423,20 @@ fn random_settings(random: &mut Random, bytes: &mut Vec<u8>, words: &mut Vec<u32
     }
 }
 
+/// Random questions alone, until so many were asked.
+pub fn random(random: &mut Random, count: u64, ask: Ask) {
+    let (mut bytes, mut words) = (Vec::new(), Vec::new());
+    let mut done = 0;
+    while done < count {
+        let mut counting = |question: &Question| {
+            done += 1;
+            ask(question)
+        };
+        random_reads(random, &mut bytes, &mut words, &mut counting);
+        random_settings(random, &mut bytes, &mut words, &mut counting);
+    }
+}
+
 /// Asks until so many questions were asked.
 pub fn run(seed: u64, count: u64, ask: Ask) {
     let mut asked = 0;
@@ -439,14 +453,5 @@ pub fn run(seed: u64, count: u64, ask: Ask) {
     parts(&mut random, &mut counting);
     fields(&mut random, &mut counting);
     text_lengths(&mut random, &mut counting);
-    let (mut bytes, mut words) = (Vec::new(), Vec::new());
-    let mut done = asked;
-    while done < count {
-        let mut counting = |question: &Question| {
-            done += 1;
-            ask(question)
-        };
-        random_reads(&mut random, &mut bytes, &mut words, &mut counting);
-        random_settings(&mut random, &mut bytes, &mut words, &mut counting);
-    }
+    self::random(&mut random, count.saturating_sub(asked), ask);
 }

@@ -5,6 +5,7 @@ mod gen;
 #[cfg(ours)]
 mod ours;
 mod plain;
+mod replay;
 mod rust_side;
 mod side;
 mod tally;
@@ -15,8 +16,8 @@ use rust_side::RustSide;
 use side::{ask, Outcome, Question, Side, Verdict};
 use tally::{show_outcome, show_question, Tally};
 
-const USE: &str =
-    "use: driver compare COUNT SEED | digest COUNT SEED | sample COUNT SEED | vectors FOLDER | read WORDS";
+const USE: &str = "use: driver compare COUNT SEED | digest COUNT SEED | sample COUNT SEED | \
+    replay COUNT SEED FOLDER | vectors FOLDER | read WORDS";
 
 /// The kit's x86-64 emulator dies where glibc reads /proc/self/maps for this call, which std makes at its start;
 /// std takes an error for a stack of unknown bounds. Only its guard page is lost by it.
@@ -198,6 +199,9 @@ fn main() {
         (Some("compare"), Some(count), Some(seed)) => compare(seed, count),
         (Some("digest"), Some(count), Some(seed)) => digest(seed, count),
         (Some("sample"), Some(count), Some(seed)) => sample(seed, count),
+        (Some("replay"), Some(count), Some(seed)) if words.len() == 4 => {
+            replay::replay(seed, count as usize, &words[3])
+        }
         (Some("read"), _, _) => read(&words[1..]),
         (Some("vectors"), _, _) if words.len() == 2 => against_vectors(&words[1]),
         _ => {

@@ -19,7 +19,6 @@ use Rattle.records.specs.declared.answers.MessageSize.{MessageSize}
 use Rattle.records.specs.declared.answers.MessageSize.the-variants as S
 use Rattle.records.specs.declared.answers.Answer.{Answer}
 use Rattle.records.specs.declared.answers.Answer.the-variants as A
-use Rattle.records.specs.declared.answers.Edited.{Edited}
 use Rattle.records.specs.Records.{kindIn, packetsIn, numbersIn}
 use Rattle.standard.specs.Packet.{packetFormat}
 use Rattle.crossing.specs.declared.numbers.Numbers.{Numbers}

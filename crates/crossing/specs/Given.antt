@@ -9,7 +9,6 @@ use Rattle.slots.specs.Slots.{fits}
 use Rattle.kinds.specs.declared.kind.Kind.{Kind}
 use Rattle.kinds.specs.declared.kind.Known.{Known}
 use Rattle.kinds.specs.declared.kind.Known.the-variants.{Is, Unknown}
-use Rattle.kinds.specs.declared.refusal.Refusal.{Refusal}
 use Rattle.kinds.specs.declared.refusal.Refusal.the-variants.{UnknownStatus, BadPort, BadDirection, NumberTooLarge}
 use Rattle.kinds.specs.Choices.{hintOf, portOf, directionOf, noPort, noDirection}
 use Rattle.kinds.specs.Fields.{Field, start}

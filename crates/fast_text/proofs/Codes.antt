@@ -1,6 +1,6 @@
 -- A step of the numbers is a step of what is due. Closed by a computed test of the 9 states at each of the 256 bytes.
 use Prim.Native.Nat.{ℕ, zero, suc, _*_, _/_, _%_, _≤_, _<_}
-use mathlib.Core.Path.{_≡_, refl, sym, ap, ap₂, subst, _∙_}
+use mathlib.Core.Path.{_≡_, refl, sym, subst, _∙_}
 use mathlib.Core.Bool.{Bool, true, false, _&&_}
 use mathlib.Core.Option.{none, some}
 use mathlib.Core.List.{List, [], _∷_}
@@ -9,7 +9,8 @@ use lib.Dec.{T, eqb, eqb→eq, eqb·suc-zero, ltb, ltb→lt}
 use lib.ListN.{getD}
 use Rattle.laws.specs.Pick.{pick}
 use Rattle.laws.proofs.Bytes.{eachBelow, at, and-left, and-right}
-use Rattle.utf8.specs.Utf8.{Range, _‥_, tail, after}
+use Rattle.utf8.specs.Utf8.{_‥_, tail, after}
+use Rattle.utf8.proofs.Same.{same-ranges, same, same-eq}
 use Rattle.text.specs.Octets.{octetOf}
 use Rattle.fast_text.specs.Fast.{rowOf, stepOf, plainOf, givenOf}
 use Rattle.fast_text.proofs.Due.{Due, ready, nextDue, isReady}
@@ -52,38 +53,6 @@ by-code : (P : ℕ → Type 0) → ((k : ℕ) → k < 9 → P (6 * k)) → (s : 
 by-code P h s c =
     let e : 6 * (s / 6) ≡ s = omega (arith, c .sixes) in
     subst P e (h (s / 6) (omega (arith, c .below)))
-
--- ---- whether the same is due
-
-same-ranges : List Range → List Range → Bool
-same-ranges [] [] = true
-same-ranges [] (d ∷ ds) = false
-same-ranges (c ∷ cs) [] = false
-same-ranges ((a ‥ b) ∷ cs) ((e ‥ f) ∷ ds) = (eqb a e && eqb b f) && same-ranges cs ds
-
-ranges-eq : (cs ds : List Range) → T (same-ranges cs ds) → cs ≡ ds
-unfolding same-ranges
-ranges-eq [] [] t = refl
-ranges-eq [] (d ∷ ds) t = absurd t
-ranges-eq (c ∷ cs) [] t = absurd t
-ranges-eq ((a ‥ b) ∷ cs) ((e ‥ f) ∷ ds) t =
-    let h = and-left (eqb a e && eqb b f) (same-ranges cs ds) t in
-    ap₂ (λ (r : Range) (l : List Range). r ∷ l)
-    (ap₂ (λ (x y : ℕ). x ‥ y) (eqb→eq a e (and-left (eqb a e) (eqb b f) h)) (eqb→eq b f (and-right (eqb a e) (eqb b f) h)))
-    (ranges-eq cs ds (and-right (eqb a e && eqb b f) (same-ranges cs ds) t))
-
-same : Due → Due → Bool
-same none none = true
-same none (some ds) = false
-same (some cs) none = false
-same (some cs) (some ds) = same-ranges cs ds
-
-same-eq : (o p : Due) → T (same o p) → o ≡ p
-unfolding same
-same-eq none none t = refl
-same-eq none (some ds) t = absurd t
-same-eq (some cs) none t = absurd t
-same-eq (some cs) (some ds) t = ap some (ranges-eq cs ds t)
 
 -- ---- a step, zeros dropped
 

@@ -10,7 +10,6 @@ use Rattle.slots.specs.Slots.{Slot, mask, sound, clear, low, within, apart}
 use Rattle.kinds.specs.declared.kind.Kind.{Kind}
 use Rattle.kinds.specs.declared.kind.Kind.the-variants as K
 use Rattle.kinds.specs.declared.kind.Known.the-variants.{Is}
-use Rattle.kinds.specs.Fields.{Field}
 use Rattle.kinds.specs.Layout.{Part, layout, kindOf, among, right, rightBody, discoveryFields, infoFields, identityFields, blockFields, nameFields}
 
 -- no two fields of a kind share a bit, none touches the head or the text or leaves its word

@@ -1,9 +1,8 @@
 -- THE TABLE: each kind's status, where each of its fields stands, and where its text starts.
 -- Reading, writing, settings and the listing all go by it, in its order.
-use Prim.Native.Nat.{ℕ, _+_, _-_, _*_}
+use Prim.Native.Nat.{ℕ, _-_, _*_}
 use mathlib.Core.Bool.{Bool, true, false}
 use mathlib.Core.List.{List, [], _∷_}
-use lib.ListN.{length, getD}
 use lib.Dec.{eqb, leb}
 use Rattle.laws.specs.Pick.{pick, both}
 use Rattle.laws.specs.Lists.{map}

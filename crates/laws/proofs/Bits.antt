@@ -1,10 +1,10 @@
 -- Laws of a field, over its lowest bit and its span: got and put, fields apart. Closed by `put-sum`, from which the rest is linear.
 use Prim.Native.Nat.{ℕ, _+_, _-_, _*_, _/_, _%_, _^_, _<_, _≤_}
-use mathlib.Core.Path.{_≡_, refl, sym, ap, subst, _∙_}
+use mathlib.Core.Path.{_≡_, sym, ap, subst, _∙_}
 use mathlib.Core.Logic.{_⊎_, inl, inr}
 use native.Mathlib.Omega.{arith}
 use native.Mathlib.Nat.{one-mul, mod-eq-of-lt, mul-assoc, add-comm, add-mul, mod-lt, mul-comm}
-use lib.Pow.{pow-pos, pow-mono, pow-lt, pow-add, shr-lt, shr-shr, field, mod-mod-pow, split}
+use lib.Pow.{pow-pos, pow-lt, pow-add, shr-lt, shr-shr, field, mod-mod-pow, split}
 use lib.Arith.{digits-lt, digits-div, digits-mod}
 use Rattle.laws.specs.Bits.{fieldOf, putField}
 

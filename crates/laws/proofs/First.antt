@@ -1,12 +1,12 @@
 -- The first number of which a test holds: what it is, that nothing else is, and how a loop finds it. By induction on the numbers left.
 use Prim.Native.Nat.{ℕ, zero, suc, _+_, _-_, _≤_, _<_}
 use mathlib.Core.Bool.{Bool, true, false}
-use mathlib.Core.Path.{_≡_, refl, sym, ap, _∙_}
+use mathlib.Core.Path.{_≡_, sym, _∙_}
 use native.Mathlib.Numerals.{add-one}
 use native.Mathlib.Decide.{decLt}
 use native.Mathlib.Omega.{arith}
 use lib.Dec.{ltb}
-use borrow.Author.Tests.{lt-ltb, le-ltb, ltb-false}
+use borrow.Author.Tests.{le-ltb, ltb-false}
 use Rattle.laws.specs.Pick.{pick}
 use Rattle.laws.specs.First.{firstFrom, first, IsFirst}
 use Rattle.laws.proofs.Pick.{true-false, split}

@@ -20,10 +20,10 @@ use Rattle.kinds.specs.declared.choices.Direction.{Direction}
 use Rattle.kinds.specs.declared.choices.Direction.the-variants as D
 use Rattle.kinds.specs.Choices.{hintCode, portCode, directionCode}
 use Rattle.kinds.specs.Fields.{same, decided, bit, partOf}
-use Rattle.kinds.specs.Layout.{layout, parts}
+use Rattle.kinds.specs.Layout.{layout}
 use Rattle.records.specs.declared.message.Message.{Message}
 use Rattle.records.specs.declared.message.Message.the-variants as M
-use Rattle.records.specs.Records.{kindIn, packetsIn, fieldsIn, lookup, firstPart, valuesOf}
+use Rattle.records.specs.Records.{packetsIn, fieldsIn, lookup, firstPart}
 use Rattle.standard.specs.Formed.{Formed}
 use Rattle.lines.specs.Numbers.{decimal, shown}
 use Rattle.lines.proofs.Room.{decimal-length, shown-length}

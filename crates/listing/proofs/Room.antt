@@ -1,14 +1,13 @@
 -- A line takes at most 17 bytes for each word that it passes, so 139,275 bytes hold any listing. Closed by counting digits at each answer of the walk.
 use Prim.Native.Nat.{ℕ, zero, suc, _+_, _-_, _*_, _/_, _%_, _≤_, _<_, min}
-use mathlib.Core.Path.{_≡_, refl, sym, ap, _∙_}
-use mathlib.Core.Bool.{Bool, true, false}
+use mathlib.Core.Path.{_≡_, refl, sym, ap}
 use mathlib.Core.Logic.{⊎-elim}
 use mathlib.Core.List.{List, [], _∷_, _++_}
 use native.Mathlib.Omega.{arith}
-use lib.Dec.{ltb, leb, lit≤}
+use lib.Dec.{ltb, lit≤}
 use lib.ListN.{length, getD, take, length-append}
 use lib.Seq.{length-take-le}
-use borrow.Author.Tests.{lt-ltb, le-ltb, lt-leb, ltb-true, ltb-false}
+use borrow.Author.Tests.{lt-ltb, le-ltb, lt-leb}
 use Rattle.laws.specs.Pick.{pick, differ}
 use Rattle.laws.specs.Lists.{tabulate, each, upTo}
 use Rattle.laws.proofs.Pick.{split, below, here, past}

@@ -1,7 +1,6 @@
 // A line for each answer of the walk.
 ghost use mathlib.Core.Path.{_≡_};
 ghost use Prim.Native.Nat.{_<_};
-ghost use lib.ListN.{length};
 ghost use Rattle.standard.specs.Walk.{walkOf};
 ghost use Rattle.walking.specs.Visits.{nextOf};
 ghost use Rattle.lines.specs.Page.{Wrote};

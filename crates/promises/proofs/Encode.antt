@@ -29,7 +29,7 @@ use Rattle.standard.proofs.Fields.{record-kind, record-packets}
 use Rattle.standard.proofs.Formed.{formed-read}
 use Rattle.promises.specs.Good.{textFor, packetsFor, Good}
 use Rattle.promises.specs.Values.{packetsNeeded, recordFor, textGiven, wordsFor, changed}
-use Rattle.promises.proofs.Walks.{formed-walk}
+use Rattle.standard.proofs.Walks.{formed-walk}
 use Rattle.promises.proofs.Values.{values-hold}
 use Rattle.promises.proofs.Laid.{Laid, laid-formed}
 use Rattle.promises.proofs.Changed.{accepted, good-with}

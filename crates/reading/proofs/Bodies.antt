@@ -1,7 +1,7 @@
 -- What reading's body is at a kind: no choice and no text where the kind has none. Closed by passing the refusals that cannot come.
-use Prim.Native.Nat.{ℕ, _-_, _*_}
-use mathlib.Core.Path.{_≡_, refl, sym, ap, _∙_}
-use mathlib.Core.Bool.{Bool, true, false}
+use Prim.Native.Nat.{ℕ, _-_}
+use mathlib.Core.Path.{_≡_, refl}
+use mathlib.Core.Bool.{false}
 use mathlib.Core.List.{List}
 use native.Mathlib.Nat.{mul-zero}
 use lib.Dec.{eqb}
@@ -14,7 +14,6 @@ use Rattle.kinds.specs.Choices.{noPort, noDirection}
 use Rattle.kinds.specs.Fields.{Field}
 use Rattle.kinds.specs.Layout.{capacityOf}
 use Rattle.records.specs.declared.answers.Read.the-variants as R
-use Rattle.standard.specs.Heads.{packetsOf}
 use Rattle.standard.specs.Reading.{codeAt, messageAt, textAt, isBad, readBody}
 use Rattle.reading.specs.Bodies.{textRead}
 

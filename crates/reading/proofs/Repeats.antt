@@ -1,20 +1,19 @@
 -- Refusal 8 by the code's rule. Closed by the one slot of a block name, and that a packet is not unlike itself.
-use Prim.Native.Nat.{ℕ, _+_, _*_, _≤_, _<_}
+use Prim.Native.Nat.{ℕ, _*_, _≤_}
 use mathlib.Core.Path.{_≡_, refl, sym, ap, _∙_, fun-ext}
 use mathlib.Core.Bool.{Bool, true, false}
 use mathlib.Core.List.{List, [], _∷_}
 use native.Mathlib.Omega.{arith}
 use native.Mathlib.Nat.{add-zero}
-use lib.ListN.{getD, drop}
+use lib.ListN.{getD}
 use lib.Seq.{getD-drop}
-use Rattle.laws.specs.Pick.{pick, differ}
+use Rattle.laws.specs.Pick.{pick}
 use Rattle.laws.specs.First.{first}
 use Rattle.laws.proofs.Pick.{true-false, eq-differ}
 use Rattle.slots.specs.Slots.{Slot, get}
 use Rattle.kinds.specs.declared.kind.Kind.{Kind}
 use Rattle.kinds.specs.declared.kind.Kind.the-variants as K
 use Rattle.kinds.specs.Layout.{Part, layout, mostOf}
-use Rattle.records.specs.declared.answers.Read.{Read}
 use Rattle.standard.specs.Heads.{packetsOf, packetFrom, headAt}
 use Rattle.standard.specs.Reading.{otherField, readBody}
 use Rattle.standard.proofs.Rules.{ruled-kept}

@@ -10,7 +10,6 @@ use Rattle.laws.proofs.Pick.{true-false, both-left, both-right, split}
 use Rattle.slots.specs.Slots.{Slot, those}
 use Rattle.kinds.specs.declared.kind.Kind.{Kind}
 use Rattle.kinds.specs.declared.kind.Kind.the-variants as K
-use Rattle.kinds.specs.declared.kind.Known.{Known}
 use Rattle.kinds.specs.declared.kind.Known.the-variants.{Is}
 use Rattle.kinds.specs.Fields.{Field, same, decided, Field-discrete, Flag-discrete, Number-discrete, Pair-discrete, Text-discrete}
 use Rattle.kinds.specs.Layout.{Part, layout, kinds, kindOf, none, slotsOf}

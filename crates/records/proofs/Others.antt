@@ -1,7 +1,7 @@
 -- What the last arm of a match on a record knows: the record is of none of the kinds that the other arms have. Closed by cases on the record, and `Homes`.
 use Prim.Native.Nat.{ℕ}
-use mathlib.Core.Path.{_≡_, refl, sym, ap, _∙_, subst}
-use mathlib.Core.Bool.{Bool, true, false, not}
+use mathlib.Core.Path.{_≡_, refl, ap, _∙_, subst}
+use mathlib.Core.Bool.{false, not}
 use mathlib.Core.List.{List, [], _∷_}
 use lib.Dec.{T, eqb}
 use borrow.Author.Tests.{ne-eqb}
@@ -18,7 +18,7 @@ use Rattle.records.specs.declared.message.Message.{Message}
 use Rattle.records.specs.declared.message.Message.the-variants as M
 use Rattle.records.specs.declared.answers.Answer.the-variants as A
 use Rattle.records.specs.Records.{kindIn}
-use Rattle.records.specs.Settings.{lacks, edited, setRecord}
+use Rattle.records.specs.Settings.{edited, setRecord}
 use Rattle.records.proofs.message.Message.{the-type}
 use Rattle.records.proofs.Homes.{one-status, elsewhere}
 use Rattle.records.proofs.Settings.{lacking}

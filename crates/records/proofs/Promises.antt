@@ -8,19 +8,17 @@ use lib.ListN.{getD}
 use lib.Dec.{eqb}
 use Rattle.laws.specs.Pick.{pick, both}
 use Rattle.laws.specs.Lists.{map, each}
-use Rattle.laws.proofs.Pick.{never, true-false, split}
-use Rattle.slots.specs.Slots.{Slot, those}
+use Rattle.laws.proofs.Pick.{never, split}
 use Rattle.kinds.specs.declared.kind.Kind.{Kind}
 use Rattle.kinds.specs.declared.kind.Kind.the-variants as K
 use Rattle.kinds.specs.declared.refusal.Refusal.{Refusal}
 use Rattle.kinds.specs.declared.refusal.Refusal.the-variants.{NumberTooLarge, NoSuchField}
 use Rattle.kinds.specs.Choices.{hintCode, hintOf, portCode, portOf, directionCode, directionOf}
 use Rattle.kinds.specs.Fields.{Text, Field, Setting, same, decided, Field-discrete, Flag-discrete, Number-discrete, Pair-discrete, Text-discrete, fieldIn, valueIn, bit, start}
-use Rattle.kinds.specs.Layout.{layout, none, slotsOf}
+use Rattle.kinds.specs.Layout.{layout}
 use Rattle.kinds.proofs.Codes.{bit-flag, hint-back, port-back, direction-back}
 use Rattle.records.specs.declared.message.Message.{Message}
 use Rattle.records.specs.declared.message.Message.the-variants as M
-use Rattle.records.specs.declared.answers.Answer.{Answer}
 use Rattle.records.specs.declared.answers.Answer.the-variants as A
 use Rattle.records.specs.declared.answers.Edited.{Edited}
 use Rattle.records.specs.Records.{Valued, kindIn, packetsIn, recordOf, fieldsIn, lookup, valuesOf, firstPart, inOrder}

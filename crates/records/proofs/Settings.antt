@@ -7,7 +7,7 @@ use mathlib.Core.List.{List, [], _∷_}
 use native.Mathlib.Omega.{arith}
 use lib.Dec.{ltb}
 use borrow.Author.Tests.{lt-ltb, le-ltb, ltb-true, not-false}
-use Rattle.laws.specs.Pick.{pick, both}
+use Rattle.laws.specs.Pick.{both}
 use Rattle.laws.proofs.Pick.{here, past, below, both-left, both-right}
 use Rattle.slots.specs.Slots.{those, fits}
 use Rattle.kinds.specs.declared.choices.UiHint.{UiHint}
@@ -18,7 +18,7 @@ use Rattle.kinds.specs.declared.choices.Direction.{Direction}
 use Rattle.kinds.specs.declared.choices.Direction.the-variants as D
 use Rattle.kinds.specs.declared.refusal.Refusal.the-variants.{NumberTooLarge, NoSuchField}
 use Rattle.kinds.specs.Choices.{hintCode, portCode, directionCode}
-use Rattle.kinds.specs.Fields.{Field, Setting, Text, fieldIn, valueIn, bit, same, decided, partOf}
+use Rattle.kinds.specs.Fields.{Setting, Text, fieldIn, valueIn, bit, same, decided, partOf}
 use Rattle.kinds.specs.Layout.{layout}
 use Rattle.records.specs.declared.message.Message.{Message}
 use Rattle.records.specs.declared.message.Message.the-variants as M

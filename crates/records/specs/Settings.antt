@@ -1,6 +1,6 @@
 -- Settings on a record: refusals 13 then 12; else the record with the field's new value.
 use Prim.Native.Nat.{ℕ}
-use mathlib.Core.Bool.{Bool, true, false, not}
+use mathlib.Core.Bool.{Bool, true, not}
 use mathlib.Core.List.{List, [], _∷_}
 use lib.Dec.{ltb, eqb}
 use Rattle.laws.specs.Pick.{pick, both}
@@ -9,7 +9,6 @@ use Rattle.kinds.specs.declared.kind.Kind.{Kind}
 use Rattle.kinds.specs.declared.choices.UiHint.{UiHint}
 use Rattle.kinds.specs.declared.choices.Midi1Port.{Midi1Port}
 use Rattle.kinds.specs.declared.choices.Direction.{Direction}
-use Rattle.kinds.specs.declared.refusal.Refusal.{Refusal}
 use Rattle.kinds.specs.declared.refusal.Refusal.the-variants.{NumberTooLarge, NoSuchField}
 use Rattle.records.specs.declared.function_block_info.FunctionBlockInfo.{FunctionBlockInfo}
 use Rattle.records.specs.declared.message.Message.{Message}

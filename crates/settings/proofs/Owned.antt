@@ -16,7 +16,6 @@ use Rattle.kinds.specs.Fields.{Setting}
 use Rattle.kinds.specs.Layout.{layout, kindOf}
 use Rattle.kinds.proofs.Rows.{status-kind}
 use Rattle.records.specs.declared.message.Message.{Message}
-use Rattle.records.specs.declared.answers.Answer.the-variants as A
 use Rattle.records.specs.declared.answers.Walked.{Walked}
 use Rattle.records.specs.declared.answers.Walked.the-variants as W
 use Rattle.records.specs.Records.{kindIn, packetsIn}

@@ -1,17 +1,15 @@
 -- The words' slots and the record's values give each other. Closed by computing the table at each kind, and the laws of the codes.
-use Prim.Native.Nat.{ℕ, _≤_, _<_}
+use Prim.Native.Nat.{ℕ, _≤_}
 use mathlib.Core.Path.{_≡_, refl, sym, _∙_}
-use mathlib.Core.Bool.{Bool, true, false}
+use mathlib.Core.Bool.{true, false}
 use mathlib.Core.Logic.{_≢_}
 use mathlib.Core.List.{List, [], _∷_}
 use native.Mathlib.Omega.{arith}
-use lib.ListN.{getD}
 use lib.Dec.{eqb}
 use borrow.Author.Tests.{ne-eqb}
-use Rattle.laws.specs.Pick.{pick, differ}
+use Rattle.laws.specs.Pick.{differ}
 use Rattle.laws.specs.Lists.{map}
-use Rattle.laws.proofs.Pick.{passed, true-false, eq-differ, differ-false, split}
-use Rattle.counts.specs.Counts.{packet}
+use Rattle.laws.proofs.Pick.{passed, true-false, eq-differ, differ-false}
 use Rattle.slots.specs.Slots.{Slot, get, those, reads}
 use Rattle.slots.proofs.Slots.{get-small}
 use Rattle.kinds.specs.declared.kind.Kind.{Kind}

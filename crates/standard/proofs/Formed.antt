@@ -1,36 +1,34 @@
 -- Reading accepts exactly the well-formed messages, with exactly their fields and text. Closed by walking each chain of refusals once, both ways.
-use Prim.Native.Nat.{ℕ, _*_, _/_, _%_, _≤_, _<_}
+use Prim.Native.Nat.{ℕ, _%_, _≤_, _<_}
 use mathlib.Core.Path.{_≡_, refl, sym, ap, _∙_, subst}
-use mathlib.Core.Bool.{Bool, true, false}
+use mathlib.Core.Bool.{false}
 use mathlib.Core.List.{List}
 use native.Mathlib.Omega.{arith}
 use lib.ListN.{length}
 use lib.Dec.{ltb, eqb}
 use borrow.Author.Tests.{le-ltb, ltb-false, eqb-false}
-use Rattle.laws.specs.Pick.{pick, differ}
-use Rattle.laws.proofs.Pick.{never, true-false, past, passed, eq-differ, differ-false}
-use Rattle.counts.specs.Counts.{packet}
+use Rattle.laws.specs.Pick.{differ}
+use Rattle.laws.proofs.Pick.{true-false, past, passed, eq-differ, differ-false}
 use Rattle.slots.specs.Slots.{reads}
-use Rattle.utf8.specs.Utf8.{Valid, firstBad}
+use Rattle.utf8.specs.Utf8.{firstBad}
 use Rattle.utf8.specs.declared.Utf8.{Utf8}
 use Rattle.utf8.specs.declared.Utf8.the-variants.{Good, BadAt}
 use Rattle.utf8.proofs.Valid.{good-valid, valid-good}
 use Rattle.text.specs.Octets.{due}
 use Rattle.text.specs.Bytes.{textOf}
-use Rattle.kinds.specs.declared.refusal.Refusal.the-variants.{TooFewWords, NotWholePackets, TooManyPackets, WrongType, StatusDiffers, WrongFormat, BlockNumberDiffers, BadPort, BadDirection, NotUtf8}
+use Rattle.kinds.specs.declared.refusal.Refusal.the-variants.{TooFewWords, NotWholePackets, TooManyPackets}
 use Rattle.kinds.specs.declared.kind.Kind.{Kind}
 use Rattle.kinds.specs.declared.kind.Known.{Known}
 use Rattle.kinds.specs.declared.kind.Known.the-variants.{Is, Unknown}
 use Rattle.records.specs.declared.message.Message.{Message}
-use Rattle.records.specs.declared.answers.Read.{Read}
 use Rattle.records.specs.declared.answers.Read.the-variants as R
 use Rattle.kinds.specs.Choices.{noPort, noDirection}
 use Rattle.kinds.specs.Fields.{Field}
 use Rattle.kinds.specs.Layout.{layout, capacityOf, mostOf, kinds, kindOf, parts}
-use Rattle.records.specs.Records.{kindIn, packetsIn, recordOf, valuesOf}
+use Rattle.records.specs.Records.{kindIn, packetsIn, valuesOf}
 use Rattle.kinds.proofs.Rows.{status-kind}
-use Rattle.standard.specs.Heads.{typeOf, formatOf, statusOf, streamType, packetsOf, packetFrom, headAt}
-use Rattle.standard.specs.Reading.{ruled, otherType, otherStatus, otherFormat, otherField, codeAt, textAt, messageAt, valuesAt, isBad, readBody, readKind, readKnown, readOf}
+use Rattle.standard.specs.Heads.{statusOf, packetsOf, packetFrom, headAt}
+use Rattle.standard.specs.Reading.{otherStatus, otherFormat, otherField, codeAt, textAt, messageAt, valuesAt, isBad, readBody, readKind, readKnown, readOf}
 use Rattle.standard.specs.Formed.{Formed}
 use Rattle.standard.proofs.Fields.{holds-record, holds-port, holds-direction, record-holds, record-kind, record-packets, same-fields, fields-same}
 use Rattle.standard.proofs.Rules.{refused-message, Keeps, ruled-message, ruled-kept, among-status, most-64}

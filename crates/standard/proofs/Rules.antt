@@ -1,6 +1,6 @@
 -- Rules over all packets, and statuses. Closed by the laws of the first number that passes a test.
 use Prim.Native.Nat.{ℕ, _≤_, _<_}
-use mathlib.Core.Path.{_≡_, refl, sym, ap, _∙_}
+use mathlib.Core.Path.{_≡_, refl, ap, _∙_}
 use mathlib.Core.Bool.{Bool, true, false}
 use mathlib.Core.List.{List, [], _∷_}
 use lib.Dec.{ltb, eqb, lit≤}
@@ -13,12 +13,11 @@ use Rattle.counts.specs.Counts.{packet}
 use Rattle.counts.specs.declared.PacketNumber.{PacketNumber}
 use Rattle.kinds.specs.declared.refusal.Refusal.{Refusal}
 use Rattle.kinds.specs.declared.kind.Kind.{Kind}
-use Rattle.kinds.specs.declared.kind.Known.{Known}
-use Rattle.kinds.specs.declared.kind.Known.the-variants.{Is, Unknown}
+use Rattle.kinds.specs.declared.kind.Known.the-variants.{Is}
 use Rattle.records.specs.declared.message.Message.{Message}
 use Rattle.records.specs.declared.answers.Read.{Read}
 use Rattle.records.specs.declared.answers.Read.the-variants as R
-use Rattle.kinds.specs.Layout.{Body, fixed, texts, layout, mostIn, mostOf, kinds, among, kindOf}
+use Rattle.kinds.specs.Layout.{Body, fixed, texts, layout, mostIn, among}
 use Rattle.standard.specs.Reading.{ruled}
 
 pub refused-message : {r : Refusal} {m : Message} → R.Refused r ≡ R.Message m → ⊥

@@ -1,5 +1,5 @@
 -- FRESH MESSAGES, SETTINGS ON WORDS, WRITING A RECORD: the answer, and the whole buffer afterwards.
-use Prim.Native.Nat.{ℕ, _+_, _*_, _/_}
+use Prim.Native.Nat.{ℕ}
 use mathlib.Core.Bool.{Bool, true, false, not}
 use mathlib.Core.List.{List, [], _∷_}
 use lib.ListN.{length, getD}

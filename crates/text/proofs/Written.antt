@@ -1,13 +1,12 @@
 -- What stands at each word of a buffer that text was written into. Closed by the laws of `upTo`.
 use Prim.Native.Nat.{ℕ, _+_, _-_, _*_, _/_, _%_, _<_, _≤_}
-use mathlib.Core.Path.{_≡_, refl, sym, ap, _∙_}
+use mathlib.Core.Path.{_≡_, _∙_}
 use mathlib.Core.List.{List}
 use native.Mathlib.Omega.{arith}
 use lib.ListN.{length, getD}
 use borrow.Author.Tests.{lt-ltb, le-ltb}
-use Rattle.laws.specs.Lists.{upTo}
 use Rattle.laws.proofs.Lists.{length-upTo, upTo-below, upTo-rest}
-use Rattle.text.specs.Octets.{octetOf, due}
+use Rattle.text.specs.Octets.{due}
 use Rattle.text.specs.Written.{headOctet, octetAt, wordIn, wordNew, wholeWords, written, blank}
 
 module _ (text : List ℕ) (head : ℕ → ℕ) (cap n : ℕ) where

@@ -1,7 +1,7 @@
 -- The bytes of a text, read out of packets.
 use Prim.Native.Nat.{ℕ, _+_, _-_, _*_, _/_, _%_}
 use mathlib.Core.List.{List}
-use lib.ListN.{length, getD}
+use lib.ListN.{getD}
 use Rattle.laws.specs.Lists.{tabulate, nonzero}
 use Rattle.text.specs.Octets.{octetOf}
 

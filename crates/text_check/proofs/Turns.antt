@@ -5,7 +5,7 @@ use mathlib.Core.List.{List}
 use native.Mathlib.Omega.{arith}
 use native.Mathlib.Nat.{add-mul, one-mul, mul-zero, mul-le-mul-right}
 use lib.Arith.{digits-lt}
-use lib.ListN.{length, getD, drop}
+use lib.ListN.{getD, drop}
 use Rattle.laws.specs.Lists.{tabulate, nonzero}
 use Rattle.utf8.specs.Utf8.{firstBad}
 use Rattle.utf8.specs.Scan.{endedOf, unreadOf, readOf, verdictOn}

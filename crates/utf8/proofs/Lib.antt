@@ -3,3 +3,4 @@ pub mod Zeros
 pub mod Small
 pub mod Ones
 pub mod Steps
+pub mod Same

@@ -1,18 +1,18 @@
 -- The steps of the check are those of the definition, at what a state means. Closed by a computed test of all 256 bytes: what the code makes of a first byte is the table's row.
 use Prim.Native.Nat.{ℕ, zero, suc, _+_, _-_, _^_, _≤_, _<_}
-use mathlib.Core.Path.{_≡_, refl, sym, ap, ap₂, _∙_}
-use mathlib.Core.Bool.{Bool, true, false, _&&_}
+use mathlib.Core.Path.{_≡_, refl, sym, ap, _∙_}
+use mathlib.Core.Bool.{Bool, true, false}
 use mathlib.Core.Option.{Option, none, some}
-use mathlib.Core.List.{List, [], _∷_}
+use mathlib.Core.List.{List, _∷_}
 use native.Mathlib.Nat.{mod-eq-of-lt}
 use native.Mathlib.Numerals.{add-one}
 use native.Mathlib.Omega.{arith}
-use lib.Dec.{T, eqb, eqb→eq, eqb·suc-zero}
+use lib.Dec.{eqb, eqb·suc-zero}
 use lib.ListN.{length, getD, drop, replicate, drop-of-length-le}
 use lib.Seq.{drop-cons}
 use Rattle.laws.specs.Pick.{pick}
 use Rattle.laws.specs.Lists.{nonzero}
-use Rattle.laws.proofs.Bytes.{at, and-left, and-right}
+use Rattle.laws.proofs.Bytes.{at}
 use Rattle.counts.specs.Counts.{byte}
 use Rattle.counts.specs.declared.TextByteNumber.{TextByteNumber}
 use Rattle.utf8.specs.declared.scan.Scan.{Scan}
@@ -22,39 +22,10 @@ use Rattle.utf8.specs.declared.Utf8.{Utf8}
 use Rattle.utf8.specs.declared.Utf8.the-variants.{BadAt}
 use Rattle.utf8.specs.Utf8.{Range, _‥_, inside, tail, after, going, stopped, begun, next, verdict, walk, firstBad}
 use Rattle.utf8.specs.Scan.{onesFrom, lengthBy, lengthOf, barredOf, lowOf, highOf, beganOf, steppedOf, endedOf, ranges, meaning, unreadOf, readOf, verdictOn}
+use Rattle.utf8.proofs.Same.{same-ranges, same, same-eq}
 use Rattle.utf8.proofs.Valid.{walk-stopped}
 
 -- ---- a first byte: the length, the barred bytes and the range of the second byte give the table's row, at each of the 256
-
-same-ranges : List Range → List Range → Bool
-same-ranges [] [] = true
-same-ranges [] (d ∷ ds) = false
-same-ranges (c ∷ cs) [] = false
-same-ranges ((a ‥ b) ∷ cs) ((e ‥ f) ∷ ds) = (eqb a e && eqb b f) && same-ranges cs ds
-
-ranges-eq : (cs ds : List Range) → T (same-ranges cs ds) → cs ≡ ds
-unfolding same-ranges
-ranges-eq [] [] t = refl
-ranges-eq [] (d ∷ ds) t = absurd t
-ranges-eq (c ∷ cs) [] t = absurd t
-ranges-eq ((a ‥ b) ∷ cs) ((e ‥ f) ∷ ds) t =
-    let h = and-left (eqb a e && eqb b f) (same-ranges cs ds) t in
-    ap₂ (λ (r : Range) (l : List Range). r ∷ l)
-    (ap₂ (λ (x y : ℕ). x ‥ y) (eqb→eq a e (and-left (eqb a e) (eqb b f) h)) (eqb→eq b f (and-right (eqb a e) (eqb b f) h)))
-    (ranges-eq cs ds (and-right (eqb a e && eqb b f) (same-ranges cs ds) t))
-
-same : Option (List Range) → Option (List Range) → Bool
-same none none = true
-same none (some ds) = false
-same (some cs) none = false
-same (some cs) (some ds) = same-ranges cs ds
-
-same-eq : (o p : Option (List Range)) → T (same o p) → o ≡ p
-unfolding same
-same-eq none none t = refl
-same-eq none (some ds) t = absurd t
-same-eq (some cs) none t = absurd t
-same-eq (some cs) (some ds) t = ap some (ranges-eq cs ds t)
 
 due : ℕ → Option (List Range)
 due b = pick (eqb (lengthOf b) 0) none (pick (barredOf b) none (some (ranges (lengthOf b - 1) (lowOf b) (highOf b))))

@@ -1,5 +1,5 @@
 -- The laws of `firstBad`: it is `Good` of the valid texts and no others, and `BadAt (byte n)` where the first bad character starts at n and nowhere else. By induction on the text.
-use Prim.Native.Nat.{ℕ, zero, suc, _+_, _<_}
+use Prim.Native.Nat.{ℕ, suc, _+_}
 use mathlib.Core.Path.{_≡_, refl, sym, ap, subst, _∙_}
 use mathlib.Core.Bool.{Bool, true, false}
 use mathlib.Core.Logic.{_⊎_, inl, inr}
@@ -13,9 +13,8 @@ use Rattle.laws.specs.Pick.{pick}
 use Rattle.laws.proofs.Pick.{never}
 use Rattle.counts.specs.Counts.{byte}
 use Rattle.counts.specs.declared.TextByteNumber.{TextByteNumber}
-use Rattle.utf8.specs.declared.Utf8.{Utf8}
 use Rattle.utf8.specs.declared.Utf8.the-variants.{Good, BadAt}
-use Rattle.utf8.specs.Utf8.{Range, inside, after, Fit, no-more, one-more, Char, char, Valid, empty, more, BadFrom, State, going, stopped, begun, next, verdict, walk, firstBad}
+use Rattle.utf8.specs.Utf8.{Range, inside, after, Fit, no-more, one-more, Char, char, Valid, empty, more, BadFrom, going, stopped, begun, walk, firstBad}
 
 pub bad-good : {A : Type 0} (n : ℕ) → BadAt (byte n) ≡ Good → A
 bad-good n e = never (cc)

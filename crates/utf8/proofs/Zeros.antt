@@ -1,19 +1,17 @@
 -- A valid text stays valid when its zero bytes are dropped; the other way round it need not. Closed by a computed test: nothing due after a first byte may be zero.
 use Prim.Native.Nat.{ℕ, zero, suc}
-use mathlib.Core.Path.{_≡_, refl, sym, ap, subst, _∙_}
+use mathlib.Core.Path.{_≡_, refl, sym, subst, _∙_}
 use mathlib.Core.Bool.{Bool, true, false, _&&_}
 use mathlib.Core.Option.{Option, none, some}
 use mathlib.Core.List.{List, [], _∷_}
-use native.Mathlib.Omega.{arith}
 use lib.Dec.{T, leb, leb·suc-zero, eqb·suc-zero}
 use Rattle.laws.specs.Pick.{pick}
 use Rattle.laws.specs.Lists.{nonzero}
 use Rattle.laws.proofs.Pick.{never}
 use Rattle.laws.proofs.Bytes.{and-left, and-right}
 use Rattle.counts.specs.Counts.{byte}
-use Rattle.utf8.specs.declared.Utf8.{Utf8}
 use Rattle.utf8.specs.declared.Utf8.the-variants.{Good, BadAt}
-use Rattle.utf8.specs.Utf8.{Range, _‥_, Row, _then_, inside, table, rowOf, after, Valid, State, going, stopped, begun, walk, firstBad}
+use Rattle.utf8.specs.Utf8.{Range, _‥_, Row, _then_, inside, table, rowOf, after, Valid, going, stopped, begun, walk, firstBad}
 use Rattle.utf8.proofs.Valid.{bad-good, walk-stopped, good-valid, valid-good}
 
 -- no range has 0 in it

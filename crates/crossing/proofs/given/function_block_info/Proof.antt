@@ -10,7 +10,7 @@ use Rattle.laws.specs.Pick.{both}
 use Rattle.laws.specs.Lists.{each}
 use borrow.Author.Tests.{eq-eqb, ne-eqb}
 use native.Mathlib.Omega.{arith}
-use mathlib.Core.Path.{refl, sym}
+use mathlib.Core.Path.{sym}
 use borrow.Author.Needs.{needs}
 use Rattle.crossing.proofs.given.function_block_info.Statement.{statement}
 use Rattle.crossing.proofs.given.function_block_info.Tie as tie

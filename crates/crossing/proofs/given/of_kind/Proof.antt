@@ -1,15 +1,10 @@
 use Rattle.crossing.specs.Given.{givenKind}
-use Rattle.crossing.specs.Given.{within, spread}
-use Rattle.records.specs.Records.{lookup, firstPart, recordOf}
+use Rattle.crossing.specs.Given.{spread}
+use Rattle.records.specs.Records.{lookup, recordOf}
 use Rattle.kinds.specs.Layout.{layout}
-use Rattle.kinds.specs.Fields.{same, decided, start, partOf}
-use Rattle.kinds.specs.declared.kind.Kind.the-variants as K
+use Rattle.kinds.specs.Fields.{same, decided, start}
 use Rattle.slots.specs.Slots.{fits}
-use Rattle.laws.specs.Pick.{both}
 use Rattle.laws.specs.Lists.{each}
-use borrow.Author.Tests.{eq-eqb, ne-eqb}
-use native.Mathlib.Omega.{arith}
-use mathlib.Core.Path.{refl, sym}
 use borrow.Author.Needs.{needs}
 use Rattle.crossing.proofs.given.of_kind.Statement.{statement}
 use Rattle.crossing.proofs.given.of_kind.Tie as tie

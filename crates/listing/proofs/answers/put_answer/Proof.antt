@@ -1,5 +1,5 @@
 use native.Mathlib.Omega.{arith}
-use Rattle.lines.proofs.Page.{nothing, says}
+use Rattle.lines.proofs.Page.{nothing}
 use Rattle.listing.proofs.Lines.{message-within, message-words, message-packets}
 use borrow.Author.Needs.{needs}
 use Rattle.listing.proofs.answers.put_answer.Statement.{statement}

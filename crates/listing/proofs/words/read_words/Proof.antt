@@ -1,5 +1,5 @@
 use Prim.Native.Nat.{_≤_, _-_, _/_, min}
-use mathlib.Core.Path.{_≡_, refl, sym, _∙_}
+use mathlib.Core.Path.{_≡_, refl, _∙_}
 use native.Mathlib.Omega.{arith}
 use lib.ListN.{length, length-set}
 use Rattle.laws.specs.Lists.{upTo}

@@ -1,5 +1,4 @@
 use borrow.Author.Tests.{ne-eqb}
-use borrow.Author.Needs.{needs}
 use Rattle.reading.proofs.function_block_info.direction.Statement.{statement}
 use Rattle.reading.proofs.function_block_info.direction.Tie as tie
 

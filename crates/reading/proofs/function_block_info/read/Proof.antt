@@ -4,7 +4,6 @@ use Rattle.slots.specs.Slots.{get, those}
 use Rattle.bit_ops.specs.Parts.{partIn}
 use Rattle.kinds.specs.Fields.{same, decided, joined}
 use Rattle.kinds.specs.Layout.{layout, held, valuesIn}
-use Rattle.records.specs.Records.{recordOf}
 use mathlib.Core.Path.{sym, ap, _∙_}
 use borrow.Author.Tests.{eq-eqb, ne-eqb}
 use Rattle.laws.proofs.Pick.{here, past}

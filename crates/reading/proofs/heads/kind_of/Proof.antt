@@ -2,7 +2,6 @@ use mathlib.Core.Path.{refl}
 use borrow.Author.Tests.{ne-eqb}
 use Rattle.laws.proofs.Pick.{past}
 use Rattle.kinds.specs.Layout.{layout, among}
-use borrow.Author.Needs.{needs}
 use Rattle.reading.proofs.heads.kind_of.Statement.{statement}
 use Rattle.reading.proofs.heads.kind_of.Tie as tie
 

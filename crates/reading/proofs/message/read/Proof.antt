@@ -1,8 +1,7 @@
-use mathlib.Core.Path.{refl, sym, ap, _∙_}
+use mathlib.Core.Path.{refl}
 use borrow.Author.Tests.{lt-ltb, le-ltb}
 use Rattle.laws.proofs.Pick.{here, past, ne-differ, eq-differ}
-use Rattle.kinds.specs.declared.kind.Known.{Known}
-use Rattle.standard.specs.Reading.{readKnown, readOf}
+use Rattle.standard.specs.Reading.{readOf}
 use Rattle.standard.proofs.Rules.{ruled-here, ruled-past}
 use Rattle.reading.specs.Rules.{breaksOf}
 use borrow.Author.Needs.{needs}

@@ -1,4 +1,4 @@
-use mathlib.Core.Path.{refl, sym, ap, _∙_}
+use mathlib.Core.Path.{refl, ap, _∙_}
 use Rattle.laws.specs.Lists.{map}
 use Rattle.slots.specs.Slots.{get, those}
 use Rattle.bit_ops.specs.Parts.{partIn}

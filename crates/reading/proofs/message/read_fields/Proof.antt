@@ -1,4 +1,4 @@
-use mathlib.Core.Path.{refl, sym, _∙_}
+use mathlib.Core.Path.{sym, _∙_}
 use Rattle.standard.proofs.Rules.{ruled-here, ruled-past}
 use Rattle.reading.specs.Bodies.{fieldsRead}
 use Rattle.reading.proofs.Repeats.{repeated-rule, repeated-none}

@@ -1,5 +1,4 @@
-use mathlib.Core.Path.{refl, sym, _∙_}
-use native.Mathlib.Omega.{arith}
+use mathlib.Core.Path.{refl}
 use borrow.Author.Tests.{lt-ltb, le-ltb}
 use Rattle.laws.proofs.Pick.{here, past}
 use Rattle.standard.specs.Reading.{readKind}

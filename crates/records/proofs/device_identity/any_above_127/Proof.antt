@@ -1,5 +1,5 @@
 -- One of four numbers is above 127.
-use mathlib.Core.Path.{sym, _∙_}
+use mathlib.Core.Path.{sym}
 use Rattle.records.specs.Settings.{septets}
 use Rattle.records.proofs.Settings.{small, large, above}
 use Rattle.records.proofs.device_identity.any_above_127.Statement.{statement}

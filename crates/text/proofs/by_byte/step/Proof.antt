@@ -1,6 +1,6 @@
 -- `text::by_byte::step`: a step from the place reached is the step from the place given.
 use Prim.Native.Nat.{ℕ, _-_, _*_, _/_, _<_}
-use mathlib.Core.Path.{_≡_, refl, sym, ap, _∙_}
+use mathlib.Core.Path.{_≡_, refl, sym, _∙_}
 use mathlib.Core.List.{List}
 use native.Mathlib.Omega.{arith}
 use lib.ListN.{length}
