@@ -7,9 +7,10 @@ use native.Mathlib.Omega.{arith}
 use lib.Dec.{eqb}
 use lib.ListN.{length, getD, drop, drop-of-length-le}
 use lib.Seq.{drop-cons}
-use Rattle.laws.specs.Bits.{wordOf}
 use Rattle.utf8.specs.Utf8.{firstBad}
 use Rattle.text.proofs.Back.{octet-word}
+use Rattle.text.specs.Four.{joinedAt}
+use Rattle.text.proofs.Fours.{joined-in}
 use Rattle.fast_text.specs.Fast.{isGood, givenOf, fourGiven}
 use Rattle.fast_text.proofs.Stands.{Stands, stands-first, stands-end, given-step}
 
@@ -28,8 +29,8 @@ module _ (text : List ℕ) where
     pub turn : (s i : ℕ) → i < length text → At s i → At (givenOf s (getD text i 0)) (i + 1)
     turn s i h st = rw add-one (given-step (getD text i 0) (small i) (rw (drop-cons text i 0 h) at st))
 
-    -- four bytes, packed into a word
-    pub turns : (s i : ℕ) → i + 4 ≤ length text → At s i → At (fourGiven s (wordOf (getD text i 0) (getD text (i + 1) 0) (getD text (i + 2) 0) (getD text (i + 3) 0))) (i + 4)
+    -- four bytes, joined in a word
+    pub turns : (s i : ℕ) → i + 4 ≤ length text → At s i → At (fourGiven s (joinedAt text i)) (i + 4)
     turns s i h st =
         let o = octet-word (getD text i 0) (getD text (i + 1) 0) (getD text (i + 2) 0) (getD text (i + 3) 0) (small i) (small (i + 1)) (small (i + 2)) (small (i + 3)) in
         let e₂ : i + 1 + 1 ≡ i + 2 = omega arith in
@@ -38,4 +39,4 @@ module _ (text : List ℕ) where
         let first = turn s i (omega arith) st in
         let second = (rw e₂ at (turn _ (i + 1) (omega arith) first)) in
         let third = (rw e₃ at (turn _ (i + 2) (omega arith) second)) in
-        rw (o .0, o .1, o .2, o .3) (rw e₄ at (turn _ (i + 3) (omega arith) third))
+        rw (joined-in text i h, o .0, o .1, o .2, o .3) (rw e₄ at (turn _ (i + 3) (omega arith) third))

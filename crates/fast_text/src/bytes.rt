@@ -1,13 +1,12 @@
 // A text as it is given, where a zero byte is a character: four bytes at a time, and at once where they are all plain.
 ghost use mathlib.Core.Path.{_≡_};
-ghost use Prim.Native.Nat.{_+_, _<_, _≤_};
-ghost use lib.ListN.{length, getD};
-ghost use Rattle.laws.specs.Bits.{wordOf};
+ghost use Prim.Native.Nat.{_<_};
 ghost use Rattle.utf8.specs.Utf8.{firstBad};
 ghost use Rattle.fast_text.specs.Fast.{isGood, givenOf, fourGiven};
 use crate::table::BAD;
 use crate::table::step;
 use crate::words::plain;
+use text::joined::joined;
 
 // The state after b. A zero byte leads where byte 1 does, as any ASCII byte.
 fn given(s: u64, b: u8) -> u64
@@ -37,25 +36,6 @@ fn four_given(s: u64, w: u32) -> u64
     given(c, (w % 256) as u8)
 }
 
-fn wide(b: u8) -> u32
-    ensures { λ r. ⌜ r ≡ b ⌝ }
-    ensures small { λ r. ⌜ r < 256 ⌝ }
-{
-    b as u32
-}
-
-// The four bytes from byte i on.
-fn packed(text: &[u8], i: usize) -> u32
-    requires { ⌜ i + 4 ≤ length (now text) ⌝ }
-    ensures { λ r. ⌜ r ≡ wordOf (getD (now (text .entry)) i 0) (getD (now (text .entry)) (i + 1) 0) (getD (now (text .entry)) (i + 2) 0) (getD (now (text .entry)) (i + 3) 0) ⌝ }
-{
-    let a = wide(text[i]);
-    let b = wide(text[i + 1]);
-    let c = wide(text[i + 2]);
-    let d = wide(text[i + 3]);
-    a * 0x1000000 + b * 0x10000 + c * 0x100 + d
-}
-
 // Whether a text as it is given is UTF-8.
 pub(crate) fn all_given(text: &[u8]) -> bool
     ensures { λ r. ⌜ r ≡ isGood (firstBad (now (text .entry))) ⌝ }
@@ -71,7 +51,7 @@ pub(crate) fn all_given(text: &[u8]) -> bool
             s = given(s, text[i]);
             i += 1;
         } else {
-            s = four_given(s, packed(text, i));
+            s = four_given(s, joined(text, i));
             i += 4;
         }
     }

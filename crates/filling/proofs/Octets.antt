@@ -7,7 +7,9 @@ use native.Mathlib.Nat.{mul-le-mul}
 use lib.ListN.{length, getD, List·getD-eq-default}
 use Rattle.bit_ops.specs.Parts.{partIn}
 use Rattle.text.specs.Octets.{octetOf, due}
-use Rattle.text.specs.Written.{headOctet, octetAt}
+use Rattle.text.specs.Four.{joinedAt}
+use Rattle.text.specs.Written.{headOctet, octetAt, wordIn}
+use Rattle.text.proofs.Fours.{joined-in}
 use Rattle.text.proofs.Written.{octet-head, octet-text}
 
 -- octet j of a word, and 0 past its four, is the head's
@@ -32,3 +34,19 @@ module _ (text : List ℕ) (head : ℕ → ℕ) (offset n p j : ℕ) (room : off
 
   pub past-text : 2 + offset ≤ j → length text ≤ p * (14 - offset) + (j - (2 + offset)) → 0 ≡ octetAt text head (14 - offset) n p j
   past-text h l = sym (List·getD-eq-default text 0 l) ∙ in-text h
+
+-- a word that lies inside the text is four of its bytes
+shifted : (a b s i : ℕ) → s ≤ b → a + (b - s) + i ≡ a + (b + i - s)
+shifted a b s i h = omega arith
+
+module _ (text : List ℕ) (head : ℕ → ℕ) (offset n p q : ℕ) (room : offset < 14) (h : 2 + offset ≤ q * 4) where
+  byte-in : (i : ℕ) → getD text (p * (14 - offset) + (q * 4 - (2 + offset)) + i) 0 ≡ octetAt text head (14 - offset) n p (q * 4 + i)
+  byte-in i =
+      ap (λ (x : ℕ). getD text x 0) (shifted (p * (14 - offset)) (q * 4) (2 + offset) i h)
+      ∙ in-text text head offset n p (q * 4 + i) room (omega arith)
+
+  pub inside-text : p * (14 - offset) + (q * 4 - (2 + offset)) + 4 ≤ length text → joinedAt text (p * (14 - offset) + (q * 4 - (2 + offset))) ≡ wordIn text head (14 - offset) n p q
+  unfolding wordIn
+  inside-text l =
+      joined-in text (p * (14 - offset) + (q * 4 - (2 + offset))) l
+      ∙ rw (in-text text head offset n p (q * 4) room h, byte-in 1, byte-in 2, byte-in 3)

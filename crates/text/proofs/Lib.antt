@@ -3,3 +3,4 @@ pub mod Written
 pub mod Back
 pub mod Place
 pub mod Rewritten
+pub mod Fours

@@ -3,3 +3,4 @@ pub mod Written
 pub mod Bytes
 pub mod Place
 pub mod Handed
+pub mod Four

@@ -1,5 +1,6 @@
 // Text in packets of four words, over any capacity from 1 to 14: how it is laid out, read back, and handed out a byte at a time.
 pub mod by_byte;
+pub mod joined;
 
 use counts::PacketNumber;
 use counts::TextByteNumber;

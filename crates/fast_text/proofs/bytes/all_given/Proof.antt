@@ -40,8 +40,8 @@ loop-again c =
     rw (c .given .ensures .0)
     (turn _ (λ k. l .before .shared-slice-known .given k .fits) _ _ (c .before .before .before .before .loop-test .taken) (l .loop .inv))
 
-packed-requires : tie.Need-packed-requires Inv-loop μ-loop
-packed-requires c κs = search needs
+joined-requires : tie.Need-joined-requires Inv-loop μ-loop
+joined-requires c κs = search needs
 
 four-given-requires : tie.Need-four-given-requires Inv-loop μ-loop
 four-given-requires c κs = omega (arith, c .before .before .before .before .loop .inv .code .below)
@@ -55,7 +55,7 @@ loop-less-2 c = search needs
 loop-again-2 : tie.Need-loop-again-2 Inv-loop μ-loop
 loop-again-2 c =
     let l = c .before .before .before .before .before in
-    rw (c .four-given .ensures, c .before .packed .ensures)
+    rw (c .four-given .ensures, c .before .joined .ensures)
     (turns _ (λ k. l .before .shared-slice-known .given k .fits) _ _ (omega arith) (l .loop .inv))
 
 returns-2 : tie.Need-returns-2 Inv-loop μ-loop
@@ -75,7 +75,7 @@ all-given-spec =
     add-i
     loop-less
     loop-again
-    packed-requires
+    joined-requires
     four-given-requires
     add-i-2
     loop-less-2

@@ -1,0 +1,38 @@
+// Four bytes as a word, the first of them highest.
+ghost use mathlib.Core.Path.{_≡_};
+ghost use Prim.Native.Nat.{_+_, _<_, _≤_};
+ghost use lib.ListN.{length, getD};
+ghost use Rattle.laws.specs.Bits.{wordOf};
+ghost use Rattle.text.specs.Four.{joinedAt};
+
+fn wide(b: u8) -> u32
+    ensures { λ r. ⌜ r ≡ b ⌝ }
+    ensures small { λ r. ⌜ r < 256 ⌝ }
+{
+    b as u32
+}
+
+// The four bytes from byte i on.
+fn packed(bytes: &[u8], i: usize) -> u32
+    requires { ⌜ i + 4 ≤ length (now bytes) ⌝ }
+    ensures { λ r. ⌜ r ≡ wordOf (getD (now (bytes .entry)) i 0) (getD (now (bytes .entry)) (i + 1) 0) (getD (now (bytes .entry)) (i + 2) 0) (getD (now (bytes .entry)) (i + 3) 0) ⌝ }
+{
+    let a = wide(bytes[i]);
+    let b = wide(bytes[i + 1]);
+    let c = wide(bytes[i + 2]);
+    let d = wide(bytes[i + 3]);
+    a * 0x1000000 + b * 0x10000 + c * 0x100 + d
+}
+
+// The same, and 0 where they are not all there.
+pub fn joined(bytes: &[u8], i: usize) -> u32
+    ensures { λ r. ⌜ r ≡ joinedAt (now (bytes .entry)) i ⌝ }
+{
+    if bytes.len() < 4 {
+        return 0;
+    }
+    if bytes.len() - 4 < i {
+        return 0;
+    }
+    packed(bytes, i)
+}
