@@ -2,4 +2,5 @@ pub mod Due
 pub mod Codes
 pub mod Stands
 pub mod Shown
+pub mod Plains
 pub mod Given

@@ -1,10 +1,11 @@
 -- The numbers that the fast check steps through, and which octets of a packet's words it looks at.
-use Prim.Native.Nat.{ℕ, _-_, _*_, _/_, _%_, _^_}
+use Prim.Native.Nat.{ℕ, _+_, _-_, _*_, _/_, _%_, _^_}
 use mathlib.Core.Bool.{Bool, true, false, _&&_}
 use mathlib.Core.List.{List, [], _∷_}
-use lib.Dec.{eqb, ltb}
-use lib.ListN.{getD}
-use Rattle.laws.specs.Pick.{pick}
+use lib.Bits.{bitAnd}
+use lib.Dec.{eqb, ltb, leb}
+use lib.ListN.{getD, length}
+use Rattle.laws.specs.Pick.{pick, both}
 use Rattle.utf8.specs.declared.Utf8.{Utf8}
 use Rattle.utf8.specs.declared.Utf8.the-variants.{Good, BadAt}
 use Rattle.text.specs.Octets.{octetOf}
@@ -87,6 +88,22 @@ bitsOf n = pick (ltb n 4) (n * 8) 32
 -- the mask of as many octets as end is above offset
 unfoldable pub maskOf : ℕ → ℕ → ℕ
 maskOf end offset = 2 ^ bitsOf (end - offset) - 1
+
+-- what a mask leaves of a word is plain
+unfoldable pub plainWord : List ℕ → ℕ → ℕ → ℕ → Bool
+plainWord ws offset at end = plainOf (bitAnd (getD ws at 0) (maskOf end offset))
+
+-- the four words of packet p are
+abbrev pub plainWords : List ℕ → ℕ → ℕ → Bool
+plainWords ws offset p =
+    both (plainWord ws offset (p * 4) 2)
+    (both (plainWord ws offset (p * 4 + 1) 6)
+    (both (plainWord ws offset (p * 4 + 2) 10)
+    (plainWord ws offset (p * 4 + 3) 14)))
+
+-- packet p is there, and all of its text is plain
+unfoldable pub plainPacket : List ℕ → ℕ → ℕ → Bool
+plainPacket ws offset p = pick (leb (length ws / 4) p) false (plainWords ws offset p)
 
 -- ---- a text as it is given, where a zero byte is a character
 

@@ -7,6 +7,7 @@ ghost use Rattle.text.specs.Bytes.{textOf};
 use utf8::Utf8;
 
 mod bytes;
+pub mod plain;
 mod table;
 mod words;
 

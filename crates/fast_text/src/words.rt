@@ -51,7 +51,7 @@ fn word(s: u64, w: u32) -> u64
 }
 
 // The mask of the last octets of a word, as many as end is above offset, and at most all four.
-fn mask(end: usize, offset: usize) -> u32
+pub(crate) fn mask(end: usize, offset: usize) -> u32
     ensures { λ r. ⌜ r ≡ maskOf end offset ⌝ }
 {
     if end <= offset {

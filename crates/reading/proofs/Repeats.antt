@@ -7,6 +7,7 @@ use native.Mathlib.Omega.{arith}
 use native.Mathlib.Nat.{add-zero}
 use lib.ListN.{getD}
 use lib.Seq.{getD-drop}
+use Rattle.laws.specs.Bits.{fieldOf}
 use Rattle.laws.specs.Pick.{pick}
 use Rattle.laws.specs.First.{first}
 use Rattle.laws.proofs.Pick.{true-false, eq-differ}
@@ -32,6 +33,10 @@ is-picked false = refl
 block-rule : (ws : List ℕ) (p : ℕ) → brokenBy U.FunctionBlock ws p ≡ otherField (layout K.FunctionBlockName .fields) ws p
 unfolding breaksOf otherField layout get
 block-rule ws p = rw (from-head ws p) (is-picked _)
+
+pub block-alike : (ws : List ℕ) (p : ℕ) → fieldOf (headAt ws p) 8 8 ≡ fieldOf (headAt ws 0) 8 8 → otherField (layout K.FunctionBlockName .fields) ws p ≡ false
+unfolding breaksOf
+block-alike ws p e = sym (block-rule ws p) ∙ eq-differ _ _ e
 
 pub repeated-rule : (k : Kind) (ws : List ℕ) → repeated k ≡ true → first (brokenBy U.FunctionBlock ws) (packetsOf ws) ≡ first (otherField (layout k .fields) ws) (packetsOf ws)
 repeated-rule K.EndpointDiscovery ws e = true-false (sym e)

@@ -47,7 +47,7 @@ pub fn direction(code: u8) -> Direction
     }
 }
 
-fn message(words: &[u32]) -> Message
+pub(crate) fn message(words: &[u32]) -> Message
     requires { ⌜ 4 ≤ length (now words) ⌝ }
     ensures { λ r. ⌜ r ≡ messageAt K.FunctionBlockInfo (now (words .entry)) ⌝ }
 {

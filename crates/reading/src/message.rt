@@ -4,14 +4,18 @@ ghost use Prim.Native.Nat.{_≤_};
 ghost use lib.ListN.{length};
 ghost use Rattle.kinds.specs.Layout.{mostOf};
 ghost use Rattle.standard.specs.Heads.{packetsOf};
-ghost use Rattle.standard.specs.Reading.{readBody, readKind, readOf};
-ghost use Rattle.reading.specs.Bodies.{textRead, repeated, fieldsRead};
+ghost use Rattle.standard.specs.Reading.{messageAt, readBody, readKind, readOf};
+ghost use Rattle.reading.specs.Bodies.{textRead, repeated, fieldsRead, rulesRead};
 use crate::device_identity;
 use crate::endpoint_discovery;
 use crate::endpoint_info;
+use crate::endpoint_name;
 use crate::function_block_info;
+use crate::function_block_name;
 use crate::heads::kind_of;
 use crate::heads::status_of;
+use crate::one_pass::plain_text;
+use crate::product_instance_id;
 use crate::rules::Rule;
 use crate::rules::first_broken;
 use counts::PacketNumber;
@@ -52,22 +56,14 @@ fn read_body(kind: Kind, words: &[u32]) -> Read
     requires { ⌜ 4 ≤ length (now words) ⌝ }
     ensures { λ r. ⌜ r ≡ readBody kind (now (words .entry)) ⌝ }
 {
-    let packets = PacketNumber(words.len() / 4);
     match kind {
         Kind::EndpointDiscovery => Read::Message(endpoint_discovery::message(words)),
         Kind::EndpointInfo => Read::Message(endpoint_info::message(words)),
         Kind::DeviceIdentity => Read::Message(device_identity::message(words)),
-        Kind::EndpointName => read_text(words, 0, Message::EndpointName(packets)),
-        Kind::ProductInstanceId => read_text(words, 0, Message::ProductInstanceId(packets)),
+        Kind::EndpointName => read_text(words, 0, endpoint_name::message(words)),
+        Kind::ProductInstanceId => read_text(words, 0, product_instance_id::message(words)),
         Kind::FunctionBlockInfo => function_block_info::read(words),
-        Kind::FunctionBlockName => {
-            let function_block = bit_ops::octet(words[0], 2);
-            let message = Message::FunctionBlockName {
-                function_block,
-                packets,
-            };
-            read_text(words, 1, message)
-        }
+        Kind::FunctionBlockName => read_text(words, 1, function_block_name::message(words)),
     }
 }
 
@@ -121,7 +117,38 @@ fn read_kind(kind: Kind, words: &[u32]) -> Read
     read_fields(kind, words)
 }
 
-// READING ONE MESSAGE
+// The record of a message of a kind, whatever its text.
+fn message_of(kind: Kind, words: &[u32]) -> Message
+    requires { ⌜ 4 ≤ length (now words) ⌝ }
+    ensures { λ r. ⌜ r ≡ messageAt kind (now (words .entry)) ⌝ }
+{
+    match kind {
+        Kind::EndpointDiscovery => endpoint_discovery::message(words),
+        Kind::EndpointInfo => endpoint_info::message(words),
+        Kind::DeviceIdentity => device_identity::message(words),
+        Kind::EndpointName => endpoint_name::message(words),
+        Kind::ProductInstanceId => product_instance_id::message(words),
+        Kind::FunctionBlockInfo => function_block_info::message(words),
+        Kind::FunctionBlockName => function_block_name::message(words),
+    }
+}
+
+// Refusals 4 to 11, one rule after the other.
+fn read_rules(words: &[u32]) -> Read
+    requires { ⌜ 4 ≤ length (now words) ⌝ }
+    ensures { λ r. ⌜ r ≡ rulesRead (now (words .entry)) ⌝ }
+{
+    let t = first_broken(Rule::Type, words);
+    if t.0 < words.len() / 4 {
+        return Read::Refused(Refusal::WrongType(t));
+    }
+    match kind_of(status_of(words[0])) {
+        Known::Unknown => Read::Refused(Refusal::UnknownStatus),
+        Known::Is(kind) => read_kind(kind, words),
+    }
+}
+
+// READING ONE MESSAGE: one whose text is all plain is seen in one pass, and no rule need be gone by
 pub fn read(words: &[u32]) -> Read
     ensures { λ r. ⌜ r ≡ readOf (now (words .entry)) ⌝ }
 {
@@ -135,12 +162,10 @@ pub fn read(words: &[u32]) -> Read
     if n > 64 {
         return Read::Refused(Refusal::TooManyPackets);
     }
-    let t = first_broken(Rule::Type, words);
-    if t.0 < n {
-        return Read::Refused(Refusal::WrongType(t));
+    if let Known::Is(kind) = kind_of(status_of(words[0])) {
+        if plain_text(kind, words).0 == n {
+            return Read::Message(message_of(kind, words));
+        }
     }
-    match kind_of(status_of(words[0])) {
-        Known::Unknown => Read::Refused(Refusal::UnknownStatus),
-        Known::Is(kind) => read_kind(kind, words),
-    }
+    read_rules(words)
 }

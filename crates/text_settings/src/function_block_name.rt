@@ -3,13 +3,14 @@ ghost use mathlib.Core.Path.{_≡_};
 ghost use Rattle.kinds.specs.Fields.{Number, Text, Setting};
 ghost use Rattle.standard.specs.Words.{setOn};
 ghost use Rattle.text_settings.specs.Texts.{blockHead};
+use crate::target::find_text_target;
 use crate::texts::set_text;
 use filling::fields::put_each;
 use filling::fields::too_large;
+use kinds::kind::Kind;
 use kinds::refusal::Refusal;
 use records::answers::Answer;
 use settings::target::Target;
-use settings::target::find_target;
 
 const STATUS: u32 = 0x12;
 
@@ -20,7 +21,7 @@ pub fn set_function_block(words: &mut [u32], number: u32) -> Answer
     ensures answer { λ r. ⌜ r ≡ setOn (Setting.number Number.function-block number) (now (words .entry)) .answer ⌝ }
     ensures buffer { λ r. ⌜ now (words .exit) ≡ setOn (Setting.number Number.function-block number) (now (words .entry)) .words ⌝ }
 {
-    match find_target(words, STATUS) {
+    match find_text_target(words, Kind::FunctionBlockName, STATUS) {
         Target::Refused(refusal) => Answer::Refused(refusal),
         Target::Packets(packets) => {
             if too_large(8, number) {
@@ -47,5 +48,5 @@ pub fn set_name(words: &mut [u32], name: &[u8]) -> Answer
     ensures buffer { λ r. ⌜ now (words .exit) ≡ setOn (Setting.text Text.function-block-name (now (name .entry))) (now (words .entry)) .words ⌝ }
 {
     let head = block_head(words);
-    set_text(words, STATUS, 1, head, name)
+    set_text(words, Kind::FunctionBlockName, STATUS, 1, head, name)
 }

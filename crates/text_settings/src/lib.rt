@@ -2,4 +2,5 @@
 pub mod endpoint_name;
 pub mod function_block_name;
 pub mod product_instance_id;
+mod target;
 pub mod texts;

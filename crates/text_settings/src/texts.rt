@@ -2,15 +2,17 @@
 ghost use mathlib.Core.Path.{_≡_};
 ghost use Prim.Native.Nat.{_<_};
 ghost use Rattle.counts.specs.Counts.{packet};
+ghost use Rattle.kinds.specs.Layout.{layout};
 ghost use Rattle.text.specs.Octets.{needed};
 ghost use Rattle.text_settings.specs.Texts.{roomOf, planOf, textOn};
+use crate::target::find_text_target;
 use counts::PacketNumber;
 use fast_text::check_utf8;
 use filling::texts::fill_text;
+use kinds::kind::Kind;
 use kinds::refusal::Refusal;
 use records::answers::Answer;
 use settings::target::Target;
-use settings::target::find_target;
 use utf8::Utf8;
 
 pub enum Plan {
@@ -60,16 +62,17 @@ pub fn plan_text(text: &[u8], capacity: usize, room: PacketNumber) -> Plan
 // The refusals of the target, then of the plan; else the text goes into each needed packet, from octet 2 + offset on, with this head.
 pub(crate) fn set_text(
     words: &mut [u32],
+    kind: Kind,
     status: u32,
     offset: usize,
     head: u32,
     text: &[u8],
 ) -> Answer
-    requires { ⌜ offset < 14 ⌝ }
+    requires { ⌜ (status ≡ layout kind .status) × (offset < 14) ⌝ }
     ensures answer { λ r. ⌜ r ≡ textOn status offset head (now (text .entry)) (now (words .entry)) .answer ⌝ }
     ensures buffer { λ r. ⌜ now (words .exit) ≡ textOn status offset head (now (text .entry)) (now (words .entry)) .words ⌝ }
 {
-    match find_target(words, status) {
+    match find_text_target(words, kind, status) {
         Target::Refused(refusal) => Answer::Refused(refusal),
         Target::Packets(_) => {
             let room = PacketNumber(words.len() / 4);

@@ -1,9 +1,15 @@
-use mathlib.Core.Path.{refl}
+-- `message::read` meets its contract: each refusal where the definition has it, and a plain text by what the pass saw.
+use Prim.Native.Nat.{ℕ}
+use mathlib.Core.Path.{refl, sym, ap, _∙_}
+use native.Mathlib.Omega.{arith}
 use borrow.Author.Tests.{lt-ltb, le-ltb}
 use Rattle.laws.proofs.Pick.{here, past, ne-differ, eq-differ}
+use Rattle.counts.specs.declared.PacketNumber.{PacketNumber}
+use Rattle.kinds.specs.Layout.{kindOf}
+use Rattle.records.specs.declared.answers.Read.the-variants as R
 use Rattle.standard.specs.Reading.{readOf}
-use Rattle.standard.proofs.Rules.{ruled-here, ruled-past}
-use Rattle.reading.specs.Rules.{breaksOf}
+use Rattle.reading.specs.Bodies.{rulesRead}
+use Rattle.reading.proofs.PlainRead.{text-seen, text-read}
 use borrow.Author.Needs.{needs}
 use Rattle.reading.proofs.message.read.Statement.{statement}
 use Rattle.reading.proofs.message.read.Tie as tie
@@ -20,13 +26,6 @@ returns-3 : tie.Need-returns-3
 unfolding readOf
 returns-3 c = past _ (le-ltb _ _ (c .before .before .if1 .left)) (past _ (eq-differ _ 0 (c .before .if2 .left)) (here _ (lt-ltb _ _ (c .if3 .taken)) refl))
 
-first-broken-requires : tie.Need-first-broken-requires
-first-broken-requires c κs = search needs
-
-returns-4 : tie.Need-returns-4
-unfolding readOf breaksOf
-returns-4 c = past _ (le-ltb _ _ (c .before .before .before .before .before .if1 .left)) (past _ (eq-differ _ 0 (c .before .before .before .before .if2 .left)) (past _ (le-ltb _ _ (c .before .before .before .if3 .left)) (ruled-here _ _ _ _ _ (c .before .before .first-broken .ensures) (c .if4 .taken))))
-
 shared-slice-read-status-of : tie.Need-shared-slice-read-status-of
 shared-slice-read-status-of c = search needs
 
@@ -36,22 +35,33 @@ status-of-requires c κs = search needs
 kind-of-requires : tie.Need-kind-of-requires
 kind-of-requires c κs = search needs
 
-enum-told : tie.Need-enum-told
-enum-told c = search needs
-
 enum-known-kind : tie.Need-enum-known-kind
 enum-known-kind c = search needs
 
-read-kind-requires : tie.Need-read-kind-requires
-read-kind-requires c κs = search needs
+plain-text-requires : tie.Need-plain-text-requires
+plain-text-requires c κs = search needs
+
+message-of-requires : tie.Need-message-of-requires
+message-of-requires c κs = search needs
+
+returns-4 : tie.Need-returns-4
+returns-4 c =
+    let k = c .before .before .before .before .before in
+    let start = k .before .before .before .before .before .before .before .before .before in
+    let n = sym (ap (λ (x : PacketNumber). x .0) (c .before .before .before .plain-text .ensures)) ∙ c .before .if4 .taken in
+    let long = k .before .before .before .before .before .before .before .if1 .left in
+    let known = ap (λ (x : ℕ). kindOf x) (sym (k .before .before .before .status-of .ensures)) ∙ sym (k .before .before .kind-of .ensures) ∙ k .kind .given .1 in
+    ap R.Message (c .message-of .ensures) ∙ text-read _ _ (text-seen (k .kind .given .0 .0) (start .args .words .now) _ n (omega (arith, long))) (k .before .before .before .before .before .before .if2 .left) known
+
+enum-told : tie.Need-enum-told
+enum-told c = search needs
+
+read-rules-requires : tie.Need-read-rules-requires
+read-rules-requires c κs = search needs
 
 returns-5 : tie.Need-returns-5
-unfolding readOf breaksOf
-returns-5 c = past _ (le-ltb _ _ (c .before .before .before .before .before .before .before .before .before .before .if1 .left)) (past _ (eq-differ _ 0 (c .before .before .before .before .before .before .before .before .before .if2 .left)) (past _ (le-ltb _ _ (c .before .before .before .before .before .before .before .before .if3 .left)) (ruled-past _ _ _ _ _ (c .before .before .before .before .before .before .before .first-broken .ensures) (c .before .before .before .before .before .if4 .left) (rw (← c .before .before .before .status-of .ensures, ← c .before .before .kind-of .ensures, c .enum-told .given .1)))))
-
-returns-6 : tie.Need-returns-6
-unfolding readOf breaksOf
-returns-6 c = past _ (le-ltb _ _ (c .before .before .before .before .before .before .before .before .before .before .before .before .if1 .left)) (past _ (eq-differ _ 0 (c .before .before .before .before .before .before .before .before .before .before .before .if2 .left)) (past _ (le-ltb _ _ (c .before .before .before .before .before .before .before .before .before .before .if3 .left)) (ruled-past _ _ _ _ _ (c .before .before .before .before .before .before .before .before .before .first-broken .ensures) (c .before .before .before .before .before .before .before .if4 .left) (rw (← c .before .before .before .before .before .status-of .ensures, ← c .before .before .before .before .kind-of .ensures, c .before .before .kind .given .1) (c .read-kind .ensures)))))
+unfolding readOf rulesRead
+returns-5 c = past _ (le-ltb _ _ (c .before .before .before .before .before .before .before .if1 .left)) (past _ (eq-differ _ 0 (c .before .before .before .before .before .before .if2 .left)) (past _ (le-ltb _ _ (c .before .before .before .before .before .if3 .left)) (c .read-rules .ensures)))
 
 pub read-spec : {M : Type 1} → statement M
 read-spec =
@@ -60,13 +70,13 @@ read-spec =
     returns
     returns-2
     returns-3
-    first-broken-requires
-    returns-4
     shared-slice-read-status-of
     status-of-requires
     kind-of-requires
-    enum-told
     enum-known-kind
-    read-kind-requires
-    returns-5
-    returns-6)
+    plain-text-requires
+    message-of-requires
+    returns-4
+    enum-told
+    read-rules-requires
+    returns-5)

@@ -1,3 +1,4 @@
+-- `message::read_body` meets its contract, kind by kind.
 use mathlib.Core.Path.{refl, ap, _∙_}
 use Rattle.laws.specs.Lists.{map}
 use Rattle.slots.specs.Slots.{get, those}
@@ -33,11 +34,17 @@ message-requires-3 c κs = search needs
 enum-told-4 : tie.Need-enum-told-4
 enum-told-4 c = search needs
 
+message-requires-4 : tie.Need-message-requires-4
+message-requires-4 c κs = search needs
+
 read-text-requires : tie.Need-read-text-requires
 read-text-requires c κs = search needs
 
 enum-told-5 : tie.Need-enum-told-5
 enum-told-5 c = search needs
+
+message-requires-5 : tie.Need-message-requires-5
+message-requires-5 c κs = search needs
 
 read-text-requires-2 : tie.Need-read-text-requires-2
 read-text-requires-2 c κs = search needs
@@ -51,11 +58,8 @@ read-requires c κs = search needs
 enum-told-7 : tie.Need-enum-told-7
 enum-told-7 c = search needs
 
-shared-slice-read-octet : tie.Need-shared-slice-read-octet
-shared-slice-read-octet c = search needs
-
-octet-requires : tie.Need-octet-requires
-octet-requires c κs = search needs
+message-requires-6 : tie.Need-message-requires-6
+message-requires-6 c κs = search needs
 
 read-text-requires-3 : tie.Need-read-text-requires-3
 read-text-requires-3 c κs = search needs
@@ -74,18 +78,18 @@ returns-3 c = rw (c .before .enum-told3 .given .1) (ap R.Message (c .message3 .e
 
 returns-4 : tie.Need-returns-4
 unfolding recordOf valuesIn layout those map held joined same decided start get partIn
-returns-4 c = rw (c .before .enum-told4 .given .1) (c .read-text .ensures ∙ text-body K.EndpointName (c .before .before .before .before .args .words .now) refl refl 0 refl)
+returns-4 c = rw (c .before .before .enum-told4 .given .1) (c .read-text .ensures ∙ rw (c .before .message4 .ensures) (text-body K.EndpointName (c .before .before .before .before .before .args .words .now) refl refl 0 refl))
 
 returns-5 : tie.Need-returns-5
 unfolding recordOf valuesIn layout those map held joined same decided start get partIn
-returns-5 c = rw (c .before .enum-told5 .given .1) (c .read-text2 .ensures ∙ text-body K.ProductInstanceId (c .before .before .before .before .args .words .now) refl refl 0 refl)
+returns-5 c = rw (c .before .before .enum-told5 .given .1) (c .read-text2 .ensures ∙ rw (c .before .message5 .ensures) (text-body K.ProductInstanceId (c .before .before .before .before .before .args .words .now) refl refl 0 refl))
 
 returns-6 : tie.Need-returns-6
 returns-6 c = rw (c .before .enum-told6 .given .1) (c .read .ensures)
 
 returns-7 : tie.Need-returns-7
 unfolding recordOf valuesIn layout those map held joined same decided start get partIn
-returns-7 c = rw (c .before .before .before .enum-told7 .given .1) (c .read-text3 .ensures ∙ rw (c .before .octet .ensures) (text-body K.FunctionBlockName (c .before .before .before .before .before .before .args .words .now) refl refl 1 refl))
+returns-7 c = rw (c .before .before .enum-told7 .given .1) (c .read-text3 .ensures ∙ rw (c .before .message6 .ensures) (text-body K.FunctionBlockName (c .before .before .before .before .before .args .words .now) refl refl 1 refl))
 
 pub read-body-spec : {M : Type 1} → statement M
 read-body-spec =
@@ -98,14 +102,15 @@ read-body-spec =
     enum-told-3
     message-requires-3
     enum-told-4
+    message-requires-4
     read-text-requires
     enum-told-5
+    message-requires-5
     read-text-requires-2
     enum-told-6
     read-requires
     enum-told-7
-    shared-slice-read-octet
-    octet-requires
+    message-requires-6
     read-text-requires-3
     returns
     returns-2

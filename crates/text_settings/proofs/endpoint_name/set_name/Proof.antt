@@ -1,6 +1,7 @@
 use mathlib.Core.Path.{refl}
 use lib.Dec.{lit≤}
 use Rattle.kinds.specs.declared.kind.Kind.the-variants as K
+use Rattle.kinds.specs.Layout.{layout}
 use Rattle.settings.proofs.Left.{said-as}
 use Rattle.text_settings.proofs.Rows.{textFacts, set-text}
 use Rattle.text_settings.proofs.Heads.{name-head}
@@ -9,7 +10,8 @@ use Rattle.text_settings.proofs.endpoint_name.set_name.Statement.{state
 use Rattle.text_settings.proofs.endpoint_name.set_name.Tie as tie
 
 set-text-requires : tie.Need-set-text-requires
-set-text-requires c κs = search needs
+unfolding layout
+set-text-requires c κs = (refl, lit≤ tt)
 
 same-length : tie.Need-same-length
 same-length c = search needs

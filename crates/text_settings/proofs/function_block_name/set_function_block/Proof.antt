@@ -1,6 +1,7 @@
 use mathlib.Core.Path.{refl, sym, _∙_}
 use Rattle.kinds.specs.declared.kind.Kind.the-variants as K
 use Rattle.kinds.specs.Fields.{Text}
+use Rattle.kinds.specs.Layout.{layout}
 use Rattle.settings.proofs.Left.{said, said-as}
 use Rattle.settings.proofs.Slots.{facts}
 use Rattle.text_settings.proofs.Plans.{each-refused, each-large, each-done}
@@ -11,8 +12,9 @@ use Rattle.text_settings.proofs.function_block_name.set_function_block.
 }
 use Rattle.text_settings.proofs.function_block_name.set_function_block.Tie as tie
 
-find-target-requires : tie.Need-find-target-requires
-find-target-requires c κs = search needs
+find-text-target-requires : tie.Need-find-text-target-requires
+unfolding layout
+find-text-target-requires c κs = refl
 
 enum-known-refusal : tie.Need-enum-known-refusal
 enum-known-refusal c = search needs
@@ -28,7 +30,7 @@ same-length c = search needs
 
 returns : tie.Need-returns
 unfolding facts
-returns c = said-as (set-each K.FunctionBlockName _ Text.function-block-name 3 8 8 _ refl refl _ refl) (said (each-large _ _ _ _ _ (sym (c .before .before .before .before .before .find-target .ensures) ∙ c .before .before .before .packets .given .1) (sym (c .before .too-large .ensures) ∙ c .if1 .taken)))
+returns c = said-as (set-each K.FunctionBlockName _ Text.function-block-name 3 8 8 _ refl refl _ refl) (said (each-large _ _ _ _ _ (sym (c .before .before .before .before .before .find-text-target .ensures) ∙ c .before .before .before .packets .given .1) (sym (c .before .too-large .ensures) ∙ c .if1 .taken)))
 
 put-each-requires : tie.Need-put-each-requires
 put-each-requires c κs = search needs
@@ -38,20 +40,20 @@ same-length-2 c = search needs
 
 returns-2 : tie.Need-returns-2
 unfolding facts
-returns-2 c = said-as (set-each K.FunctionBlockName _ Text.function-block-name 3 8 8 _ refl refl _ refl) (said (each-refused _ _ _ _ _ (sym (c .before .before .before .find-target .ensures) ∙ c .before .refusal .given .1)))
+returns-2 c = said-as (set-each K.FunctionBlockName _ Text.function-block-name 3 8 8 _ refl refl _ refl) (said (each-refused _ _ _ _ _ (sym (c .before .before .before .find-text-target .ensures) ∙ c .before .refusal .given .1)))
 
 same-length-3 : tie.Need-same-length-3
 same-length-3 c = search needs
 
 returns-3 : tie.Need-returns-3
 unfolding facts
-returns-3 c = said-as (set-each K.FunctionBlockName _ Text.function-block-name 3 8 8 _ refl refl _ refl) (rw (c .before .before .put-each .ensures) (said (each-done _ _ _ _ _ (sym (c .before .before .before .before .before .before .before .before .before .find-target .ensures) ∙ c .before .before .before .before .before .before .before .packets .given .1) (sym (c .before .before .before .before .before .too-large .ensures) ∙ c .before .before .before .before .if1 .left))))
+returns-3 c = said-as (set-each K.FunctionBlockName _ Text.function-block-name 3 8 8 _ refl refl _ refl) (rw (c .before .before .put-each .ensures) (said (each-done _ _ _ _ _ (sym (c .before .before .before .before .before .before .before .before .before .find-text-target .ensures) ∙ c .before .before .before .before .before .before .before .packets .given .1) (sym (c .before .before .before .before .before .too-large .ensures) ∙ c .before .before .before .before .if1 .left))))
 
 pub set-function-block-spec : {M : Type 1} → statement M
 set-function-block-spec =
     tie.close
     (tie.spec
-    find-target-requires
+    find-text-target-requires
     enum-known-refusal
     enum-known-packets
     too-large-requires

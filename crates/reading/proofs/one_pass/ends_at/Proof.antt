@@ -1,0 +1,28 @@
+-- `one_pass::ends_at` meets its contract, by the format due of the last packet.
+use mathlib.Core.Path.{refl, sym, _∙_}
+use borrow.Author.Tests.{eq-eqb, ne-eqb}
+use Rattle.laws.proofs.Pick.{here, past}
+use Rattle.reading.specs.OnePass.{endsAt}
+use borrow.Author.Needs.{needs}
+use Rattle.reading.proofs.one_pass.ends_at.Statement.{statement}
+use Rattle.reading.proofs.one_pass.ends_at.Tie as tie
+
+add-due-format : tie.Need-add-due-format
+add-due-format c = search needs
+
+due-format-requires : tie.Need-due-format-requires
+due-format-requires c κs = search needs
+
+add-result : tie.Need-add-result
+add-result c = search needs
+
+returns : tie.Need-returns
+unfolding endsAt
+returns c = here _ (eq-eqb _ _ (c .if1 .taken ∙ c .before .due-format .ensures)) refl
+
+returns-2 : tie.Need-returns-2
+unfolding endsAt
+returns-2 c = past _ (ne-eqb _ _ (λ e. c .if1 .left (e ∙ sym (c .before .due-format .ensures)))) refl
+
+pub ends-at-spec : {M : Type 1} → statement M
+ends-at-spec = tie.close (tie.spec add-due-format due-format-requires add-result returns returns-2)

@@ -1,0 +1,44 @@
+-- `target::find_text_target` meets its contract: what the pass sees is what the walk finds.
+use mathlib.Core.Path.{refl, sym, ap, _∙_}
+use native.Mathlib.Omega.{arith}
+use Rattle.counts.specs.declared.PacketNumber.{PacketNumber}
+use Rattle.settings.specs.declared.target.Target.the-variants as T
+use Rattle.text_settings.proofs.Targets.{plain-target}
+use borrow.Author.Needs.{needs}
+use Rattle.text_settings.proofs.target.find_text_target.Statement.{statement}
+use Rattle.text_settings.proofs.target.find_text_target.Tie as tie
+
+shared-slice-read-status-of : tie.Need-shared-slice-read-status-of
+shared-slice-read-status-of c = search needs
+
+status-of-requires : tie.Need-status-of-requires
+status-of-requires c κs = search needs
+
+plain-text-requires : tie.Need-plain-text-requires
+plain-text-requires c κs = search needs
+
+returns : tie.Need-returns
+returns c =
+    let start = c .before .before .before .before .before .before .before .before in
+    let own = sym (c .before .before .before .before .status-of .ensures) ∙ c .before .before .before .if2 .taken ∙ start .pre in
+    let n = c .before .before .plain-text .ensures in
+    let is = ap (λ (x : PacketNumber). x .0) n in
+    let some = c .if3 .taken in
+    rw (start .pre) (ap T.Packets n ∙ plain-target (start .args .kind) (start .args .words .now) _ own refl (omega (arith, is, some)))
+
+find-target-requires : tie.Need-find-target-requires
+find-target-requires c κs = search needs
+
+returns-2 : tie.Need-returns-2
+returns-2 c = search needs
+
+pub find-text-target-spec : {M : Type 1} → statement M
+find-text-target-spec =
+    tie.close
+    (tie.spec
+    shared-slice-read-status-of
+    status-of-requires
+    plain-text-requires
+    returns
+    find-target-requires
+    returns-2)
