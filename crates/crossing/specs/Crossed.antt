@@ -1,5 +1,6 @@
 -- EACH ANSWER AS IT CROSSES: document 01's numbers, and 0 where the answer has none.
 use Prim.Native.Nat.{ℕ}
+use mathlib.Core.List.{List, [], _∷_}
 use lib.ListN.{getD}
 use Rattle.kinds.specs.Refusals.{numberOf, placeOf}
 use Rattle.kinds.specs.Choices.{formatCode}
@@ -30,41 +31,28 @@ use Rattle.crossing.specs.declared.answers.SizeAnswer.{SizeAnswer}
 use Rattle.crossing.specs.declared.answers.StepAnswer.{StepAnswer}
 
 -- ---- a record: its status, its packets, and its numbers in the table's order
-abbrev pub nth : Message → ℕ → ℕ
-nth m i = getD (numbersIn m) i 0
-
-abbrev pub crossed : Message → Numbers
-crossed m =
-    record {
-      status = layout (kindIn m) .status;
-      packets = packetsIn m;
-      first = nth m 0;
-      second = nth m 1;
-      third = nth m 2;
-      fourth = nth m 3;
-      fifth = nth m 4;
-      sixth = nth m 5;
-      seventh = nth m 6;
-      eighth = nth m 7;
-      ninth = nth m 8;
-    }
-
--- a record with one number
-abbrev pub lone : ℕ → ℕ → ℕ → Numbers
-lone s p n =
+abbrev pub numbered : ℕ → ℕ → List ℕ → Numbers
+numbered s p ns =
     record {
       status = s;
       packets = p;
-      first = n;
-      second = 0;
-      third = 0;
-      fourth = 0;
-      fifth = 0;
-      sixth = 0;
-      seventh = 0;
-      eighth = 0;
-      ninth = 0;
+      first = getD ns 0 0;
+      second = getD ns 1 0;
+      third = getD ns 2 0;
+      fourth = getD ns 3 0;
+      fifth = getD ns 4 0;
+      sixth = getD ns 5 0;
+      seventh = getD ns 6 0;
+      eighth = getD ns 7 0;
+      ninth = getD ns 8 0;
     }
+
+abbrev pub crossed : Message → Numbers
+crossed m = numbered (layout (kindIn m) .status) (packetsIn m) (numbersIn m)
+
+-- a record with one number
+abbrev pub lone : ℕ → ℕ → ℕ → Numbers
+lone s p n = numbered s p (n ∷ [])
 
 abbrev pub noNumbers : Numbers
 noNumbers = lone 0 0 0

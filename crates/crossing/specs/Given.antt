@@ -5,6 +5,7 @@ use mathlib.Core.List.{List, [], _∷_}
 use lib.ListN.{length, getD, take, drop}
 use lib.Dec.{ltb, eqb}
 use Rattle.laws.specs.Pick.{pick, both}
+use Rattle.laws.specs.Lists.{each}
 use Rattle.slots.specs.Slots.{fits}
 use Rattle.kinds.specs.declared.kind.Kind.{Kind}
 use Rattle.kinds.specs.declared.kind.Known.{Known}
@@ -14,7 +15,9 @@ use Rattle.kinds.specs.Choices.{hintOf, portOf, directionOf, noPort, noDirectio
 use Rattle.kinds.specs.Fields.{Field, start}
 use Rattle.kinds.specs.Layout.{layout, kindOf, parts}
 use Rattle.records.specs.Records.{Valued, lookup, inOrder, recordOf}
+use Rattle.standard.specs.Words.{hasText}
 use Rattle.crossing.specs.declared.numbers.Numbers.{Numbers}
+use Rattle.crossing.specs.Crossed.{numbered}
 use Rattle.crossing.specs.declared.given.Given.{Given}
 use Rattle.crossing.specs.declared.given.Given.the-variants as G
 use Rattle.crossing.specs.declared.choices.HintGiven.{HintGiven}
@@ -57,6 +60,11 @@ givenKnown (Is k) c = givenKind k c
 -- refusal 5 first
 abbrev pub givenOf : Numbers → Given
 givenOf c = givenKnown (kindOf (c .status)) c
+
+-- what is looked at of numbers given for a kind: a fixed kind is one packet, and numbers past the kind's last are as 0
+abbrev pub trimmed : Kind → Numbers → Numbers
+trimmed k c =
+    numbered (c .status) (pick (hasText (layout k .body)) (c .packets) 1) (take (length (each start (inOrder k))) (inRow c))
 
 -- ---- choices by code: 12 above 3, then 9 for port 3 and 10 for direction 0
 abbrev pub hintGiven : ℕ → HintGiven
