@@ -16,14 +16,23 @@ use Rattle.lines.specs.Numbers.{decimal, hexByte, number, shown}
 use Rattle.lines.proofs.Numbers.{decimal-one, decimal-more}
 
 -- ---- lengths
+-- a digit, and one more than a tenth has
+pub length-one : (n : ℕ) → n < 10 → length (decimal n) ≡ 1
+length-one n h = rw (decimal-one n h)
+
+pub length-more : (n : ℕ) → 10 ≤ n → length (decimal n) ≡ length (decimal (n / 10)) + 1
+length-more n h = rw (decimal-more n h, length-append)
+
 -- a number below 10 to the k + 1 has at most k + 1 digits
 pub decimal-length : (k n : ℕ) → n < 10 ^ suc k → length (decimal n) ≤ suc k
-decimal-length zero n h = rw (decimal-one n (omega arith)) (omega arith)
+decimal-length zero n h = omega (arith, length-one n (omega arith))
 decimal-length (suc k) n h =
     let l = pow-suc 10 (suc k) in
-    ⊎-elim (λ s. rw (decimal-one n s) (omega arith))
-    (λ g. rw (decimal-more n g, length-append) (omega (arith, decimal-length k (n / 10) (omega arith))))
-    (below n 10)
+    ⊎-elim (λ s. omega (arith, length-one n s)) (λ g. omega (arith, length-more n g, decimal-length k (n / 10) (omega arith))) (below n 10)
+
+-- one of 64 bits has at most twenty
+pub length-most : (n : ℕ) → n < 2 ^ 64 → length (decimal n) ≤ 20
+length-most n h = decimal-length 19 n (omega arith)
 
 -- texts of at most k bytes each
 pub each-length : (f : ℕ → List ℕ) (k : ℕ) → ((x : ℕ) → length (f x) ≤ k) → (xs : List ℕ) → length (each f xs) ≤ length xs * k
@@ -64,7 +73,7 @@ within {i} {o = o} {a = a} w l =
     rw (← w .is) at e
 
 -- ---- where there is room, the text is stored from i on, byte by byte
-puts-sets : (a o : List ℕ) (i : ℕ) → i + length a ≤ length o → puts (page i o) a ≡ page (i + length a) (sets o i a)
+pub puts-sets : (a o : List ℕ) (i : ℕ) → i + length a ≤ length o → puts (page i o) a ≡ page (i + length a) (sets o i a)
 unfolding puts put
 puts-sets [] o i h = rw add-zero
 puts-sets (b ∷ a) o i h =

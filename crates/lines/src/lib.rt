@@ -3,6 +3,7 @@
 ghost use mathlib.Core.Path.{_≡_};
 ghost use mathlib.Core.List.{[], _∷_, _++_};
 ghost use Prim.Native.Nat.{_<_};
+ghost use lib.ListN.{length};
 ghost use Rattle.lines.specs.Page.{Wrote};
 ghost use Rattle.lines.specs.Numbers.{decimal, digit, hexByte, number, numbers};
 
@@ -39,15 +40,38 @@ fn digit(n: u8) -> u8
     87 + n
 }
 
-// A number's decimal digits, the highest first.
+// How many decimal digits a number has.
+fn digits_of(n: u64) -> usize
+    ensures { λ r. ⌜ r ≡ length (decimal n) ⌝ }
+{
+    let mut rest = n;
+    let mut count = 1;
+    while 10 <= rest {
+        rest = rest / 10;
+        count += 1;
+    }
+    count
+}
+
+// A number's decimal digits, the highest first. They are put from the last on, since that is how they come.
 pub fn put_decimal(out: &mut [u8], at: usize, n: u64) -> usize
     ensures { λ r. ⌜ Wrote at (now (out .entry)) (decimal n) r (now (out .exit)) ⌝ }
 {
-    if n < 10 {
-        return put_byte(out, at, digit(n as u8));
+    if out.len() <= at {
+        return at;
     }
-    let p = put_decimal(out, at, n / 10);
-    put_byte(out, p, digit((n % 10) as u8))
+    let count = digits_of(n);
+    let mut rest = n;
+    let mut i = count;
+    while 0 < i {
+        i -= 1;
+        put_byte(out, at + i, digit((rest % 10) as u8));
+        rest = rest / 10;
+    }
+    if out.len() - at < count {
+        return out.len();
+    }
+    at + count
 }
 
 // A byte's two digits, in lower-case hex.
