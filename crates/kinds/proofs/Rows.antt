@@ -5,7 +5,7 @@ use mathlib.Core.Bool.{true}
 use mathlib.Core.List.{List, [], _∷_}
 use native.Mathlib.Omega.{arith}
 use Rattle.laws.specs.Pick.{both}
-use Rattle.laws.specs.Lists.{map, each}
+use Rattle.laws.specs.Lists.{map}
 use Rattle.slots.specs.Slots.{Slot, mask, sound, clear, low, within, apart}
 use Rattle.kinds.specs.declared.kind.Kind.{Kind}
 use Rattle.kinds.specs.declared.kind.Kind.the-variants as K

@@ -5,7 +5,7 @@ use mathlib.Core.Bool.{Bool, true, false}
 use mathlib.Core.List.{List, [], _∷_, _++_}
 use native.Mathlib.Omega.{arith}
 use native.Mathlib.Numerals.{add-one}
-use lib.ListN.{length, getD, set}
+use lib.ListN.{length, getD, set, take}
 use lib.Seq.{ext-getD}
 use lib.Dec.{eqb}
 use borrow.Author.Tests.{eq-eqb, ne-eqb}
@@ -76,6 +76,13 @@ unfolding upTo
 upTo-over zero f g ws = refl
 upTo-over (suc i) f g [] = refl
 upTo-over (suc i) f g (w ∷ ws) = ap (λ (l : List ℕ). f zero ∷ l) (upTo-over i (λ k. f (suc k)) (λ k. g (suc k)) ws)
+
+-- a slice filled as far as it is looked at is tabulated
+pub upTo-take : (n : ℕ) (f : ℕ → ℕ) (ws : List ℕ) → n ≤ length ws → take n (upTo n f ws) ≡ tabulate n f
+unfolding upTo tabulate
+upTo-take zero f ws h = refl
+upTo-take (suc n) f [] h = absurd (omega arith)
+upTo-take (suc n) f (w ∷ ws) h = ap (λ (l : List ℕ). f zero ∷ l) (upTo-take n (λ k. f (suc k)) ws (omega arith))
 
 -- ---- nonzero: which elements are dropped, and that the others keep their order
 pub nonzero-zero : (x : ℕ) (xs : List ℕ) → x ≡ 0 → nonzero (x ∷ xs) ≡ nonzero xs

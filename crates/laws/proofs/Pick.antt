@@ -34,6 +34,16 @@ pub split : {A : Type 0} (b : Bool) → (b ≡ true → A) → (b ≡ false → 
 split true f g = f refl
 split false f g = g refl
 
+-- what holds of both cases, each where it is picked, holds of the picked one
+pub picked : {A : Type 0} (P : A → Type 0) (t : Bool) (x y : A) → (t ≡ true → P x) → (t ≡ false → P y) → P (pick t x y)
+picked P true x y f g = f refl
+picked P false x y f g = g refl
+
+-- one test holds, or the next
+pub either : (a b : Bool) → pick a true b ≡ true → (a ≡ true) ⊎ (b ≡ true)
+either true b e = inl refl
+either false b e = inr e
+
 -- a number below another, or not
 pub below : (a b : ℕ) → (a < b) ⊎ (b ≤ a)
 below a b = go (decLt a b)
@@ -61,6 +71,12 @@ pub both-false : (a : Bool) → both a false ≡ false
 unfolding both
 both-false true = refl
 both-false false = refl
+
+-- a test with no other after it
+pub both-alone : (a : Bool) → both a true ≡ a
+unfolding both
+both-alone true = refl
+both-alone false = refl
 
 -- ---- two numbers
 pub eq-differ : (a b : ℕ) → a ≡ b → differ a b ≡ false

@@ -1,7 +1,7 @@
 -- The place of any refusal of the walk is at most 64. Closed by following the picks of reading and framing.
 use Prim.Native.Nat.{ℕ, zero, suc, _+_, _-_, _%_, _≤_}
 use mathlib.Core.Path.{_≡_, refl}
-use mathlib.Core.Bool.{Bool, true, false}
+use mathlib.Core.Bool.{Bool, false}
 use mathlib.Core.List.{List}
 use native.Mathlib.Omega.{arith}
 use lib.ListN.{length, getD}
@@ -10,6 +10,7 @@ use borrow.Author.Tests.{ltb-false}
 use Rattle.laws.specs.Pick.{pick, differ}
 use Rattle.laws.specs.First.{first}
 use Rattle.laws.proofs.First.{first-is}
+use Rattle.laws.proofs.Pick.{picked}
 use Rattle.counts.specs.Counts.{packet}
 use Rattle.counts.specs.declared.PacketNumber.{PacketNumber}
 use Rattle.utf8.specs.Utf8.{firstBad}
@@ -32,11 +33,6 @@ use Rattle.standard.specs.Heads.{typeOf, formatOf, statusOf, streamType, packet
 use Rattle.standard.specs.Reading.{ruled, otherType, otherStatus, otherFormat, otherField, codeAt, textAt, messageAt, isBad, readBody, readKind, readKnown, readOf}
 use Rattle.standard.specs.Walk.{stepOf, afterStep, framePacket, frameFrom, frameOf}
 
--- what holds of both cases holds of the picked one
-picked : {A : Type 0} (P : A → Type 0) (b : Bool) (x y : A) → P x → (b ≡ false → P y) → P (pick b x y)
-picked P true x y f g = f
-picked P false x y f g = g refl
-
 -- ---- reading
 abbrev pub Near : Read → Type 0
 Near (R.Message m) = Unit
@@ -44,12 +40,12 @@ Near (R.Refused r) = placeOf r ≤ 64
 
 -- a test that refuses without a place, and a rule that refuses at a packet
 tested : (t : Bool) (r : Refusal) (rest : Read) → placeOf r ≤ 64 → (t ≡ false → Near rest) → Near (pick t (R.Refused r) rest)
-tested t r rest h g = picked Near t (R.Refused r) rest h g
+tested t r rest h g = picked Near t (R.Refused r) rest (λ e. h) g
 
 ruled-near : (broken : ℕ → Bool) (n : ℕ) (why : PacketNumber → Refusal) (rest : Read) → n ≤ 64 → ((p : PacketNumber) → placeOf (why p) ≡ p .0) → Near rest → Near (ruled broken n why rest)
 unfolding ruled
 ruled-near broken n why rest h e r =
-    picked Near (ltb (first broken n) n) _ _ (rw e (omega (arith, first-is broken n .high))) (λ t. r)
+    picked Near (ltb (first broken n) n) _ _ (λ t. rw e (omega (arith, first-is broken n .high))) (λ t. r)
 
 module _ (ws : List ℕ) where
   body-near : (k : Kind) → Near (readBody k ws)
@@ -91,9 +87,9 @@ step-close Wrong p rest h r = h
 packet-close : (ws : List ℕ) (status p at : ℕ) (rest : Framed) → p ≤ 64 → Close rest → Close (framePacket ws status p at rest)
 unfolding framePacket
 packet-close ws status p at rest h r =
-    picked Close (ltb (length ws - at) 4) _ _ tt (λ t.
-    picked Close (differ (typeOf (getD ws at 0)) streamType) _ _ h (λ u.
-    picked Close (differ (statusOf (getD ws at 0)) status) _ _ h (λ v. step-close (stepOf p (formatOf (getD ws at 0))) p rest h r)))
+    picked Close (ltb (length ws - at) 4) _ _ (λ t. tt) (λ t.
+    picked Close (differ (typeOf (getD ws at 0)) streamType) _ _ (λ u. h) (λ u.
+    picked Close (differ (statusOf (getD ws at 0)) status) _ _ (λ v. h) (λ v. step-close (stepOf p (formatOf (getD ws at 0))) p rest h r)))
 
 from-close : (left : ℕ) (ws : List ℕ) (status p at : ℕ) → p + left ≤ 64 → Close (frameFrom left ws status p at)
 unfolding frameFrom

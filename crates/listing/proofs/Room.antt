@@ -2,16 +2,16 @@
 use Prim.Native.Nat.{ℕ, zero, suc, _+_, _-_, _*_, _/_, _%_, _≤_, _<_, min}
 use mathlib.Core.Path.{_≡_, refl, sym, ap}
 use mathlib.Core.Logic.{⊎-elim}
-use mathlib.Core.List.{List, [], _∷_, _++_}
+use mathlib.Core.List.{List, _++_}
 use native.Mathlib.Omega.{arith}
 use lib.Dec.{ltb, lit≤}
 use lib.ListN.{length, getD, take, length-append}
 use lib.Seq.{length-take-le}
 use borrow.Author.Tests.{lt-ltb, le-ltb, lt-leb}
 use Rattle.laws.specs.Pick.{pick, differ}
-use Rattle.laws.specs.Lists.{tabulate, each, upTo}
+use Rattle.laws.specs.Lists.{each, upTo}
 use Rattle.laws.proofs.Pick.{split, below, here, past}
-use Rattle.laws.proofs.Lists.{length-tabulate}
+use Rattle.laws.proofs.Lists.{length-tabulate, upTo-take}
 use Rattle.counts.specs.Counts.{word}
 use Rattle.counts.specs.declared.WordNumber.{WordNumber}
 use Rattle.kinds.specs.declared.refusal.Refusal.{Refusal}
@@ -206,12 +206,6 @@ listed bytes o r p w =
     }
 
 -- ---- the two cases of the listing
-upTo-take : (n : ℕ) (f : ℕ → ℕ) (ws : List ℕ) → n ≤ length ws → take n (upTo n f ws) ≡ tabulate n f
-unfolding upTo tabulate
-upTo-take zero f ws h = refl
-upTo-take (suc n) f [] h = absurd (omega arith)
-upTo-take (suc n) f (w ∷ ws) h = ap (λ (l : List ℕ). f zero ∷ l) (upTo-take n (λ k. f (suc k)) ws (omega arith))
-
 pub too-long : (bytes : List ℕ) → 32768 < length bytes → tooLong ≡ listingOf bytes
 unfolding listingOf
 too-long bytes h = here _ (lt-ltb 32768 (length bytes) h) refl

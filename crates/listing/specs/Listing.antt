@@ -6,7 +6,7 @@ use lib.Dec.{ltb}
 use Rattle.laws.specs.Pick.{pick}
 use Rattle.laws.specs.Lists.{tabulate, each}
 use Rattle.laws.specs.Bits.{wordOf}
-use Rattle.walking.specs.Visits.{Visit, visits, visitsOf}
+use Rattle.walking.specs.Visits.{Visit, visitsOf}
 use Rattle.listing.specs.Lines.{lineOf, endLine, tooLong}
 
 -- the whole words of the bytes, big-endian

@@ -1,15 +1,15 @@
 -- What the buffer of given values holds, packet by packet, and that it is then a message of their record. Closed by fields of a head.
 use Prim.Native.Nat.{ℕ, _*_, _≤_, _<_}
-use mathlib.Core.Path.{_≡_, refl, subst}
+use mathlib.Core.Path.{_≡_, subst}
 use mathlib.Core.Bool.{true}
-use mathlib.Core.List.{List, [], _∷_}
+use mathlib.Core.List.{List}
 use native.Mathlib.Omega.{arith}
 use lib.ListN.{length, take}
-use borrow.Author.Tests.{ltb-true, lt-ltb}
 use Rattle.laws.specs.Bits.{fieldOf}
 use Rattle.laws.specs.Lists.{nonzero}
-use Rattle.laws.proofs.Pick.{both-left, both-right, both-true}
+use Rattle.laws.proofs.Pick.{both-right}
 use Rattle.slots.specs.Slots.{Slot, low, reads}
+use Rattle.slots.proofs.Tables.{low-more}
 use Rattle.utf8.proofs.Zeros.{nonzero-valid}
 use Rattle.text.specs.Octets.{due}
 use Rattle.text.specs.Bytes.{textOf}
@@ -42,13 +42,6 @@ pub record Laid (b : Body) (r : Row) (n : ℕ) (v : Field → List ℕ) (ws : Li
   pub text : textOf ws (capacityIn b) n ≡ nonzero (textFor b v)
 
 -- ---- what every row keeps
-low-more : {K : Type 0} (m n : ℕ) (t : List (Slot K)) → m ≤ n → low m t ≡ true → low n t ≡ true
-unfolding low
-low-more m n [] h l = refl
-low-more m n (s ∷ ss) h l =
-    let a : s .word < m = ltb-true _ _ (both-left _ _ l) in
-    both-true _ _ (lt-ltb (s .word) n (omega arith)) (low-more m n ss h (both-right _ _ l))
-
 body-low : (b : Body) (t : List (Slot Part)) → rightBody b t ≡ true → low 4 t ≡ true
 unfolding rightBody
 body-low fixed t e = e

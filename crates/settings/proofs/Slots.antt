@@ -7,7 +7,7 @@ use native.Mathlib.Omega.{arith}
 use lib.Dec.{ltb, leb}
 use borrow.Author.Tests.{lt-ltb, le-ltb, leb-true, leb-false}
 use Rattle.laws.specs.Pick.{pick, both}
-use Rattle.laws.proofs.Pick.{split}
+use Rattle.laws.proofs.Pick.{split, both-alone}
 use Rattle.slots.specs.Slots.{Slot, fits, those}
 use Rattle.counts.specs.declared.PacketNumber.{PacketNumber}
 use Rattle.utf8.specs.Utf8.{firstBad}
@@ -129,11 +129,6 @@ module _ (k : Kind) (s : Setting) (t : List (Slot Part)) (f : facts k s ≡ plai
 abbrev pub one : Setting → ℕ → ℕ → ℕ → List (Slot Part)
 one s word at span = record { word = word; at = at; span = span; key = record { field = fieldIn s; index = 0 } } ∷ []
 
-alone : (t : Bool) → both t true ≡ t
-unfolding both
-alone true = refl
-alone false = refl
-
 pub set-slot : (k : Kind) (s : Setting) (word at span v : ℕ) → facts k s ≡ plain fixed (one s word at span) → partOf (fieldIn s) (valueIn s) 0 ≡ v → (ws : List ℕ) → setOn s ws ≡ slotOn (layout k .status) word at span v ws
 unfolding slotOn fits putIns
-set-slot k s word at span v f e ws = rw (← e, ← alone (ltb (partOf (fieldIn s) (valueIn s) 0) (2 ^ span))) (set-fixed k s (one s word at span) f ws _ refl)
+set-slot k s word at span v f e ws = rw (← e, ← both-alone (ltb (partOf (fieldIn s) (valueIn s) 0) (2 ^ span))) (set-fixed k s (one s word at span) f ws _ refl)

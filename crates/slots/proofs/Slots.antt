@@ -13,13 +13,9 @@ use lib.Dec.{ltb, leb, eqb}
 use borrow.Author.Tests.{ltb-true, leb-true, eqb-true, eqb-false}
 use Rattle.laws.specs.Pick.{pick, both}
 use Rattle.laws.specs.Bits.{fieldOf, putField}
-use Rattle.laws.proofs.Pick.{below, both-left, both-right, both-true}
+use Rattle.laws.proofs.Pick.{either, below, both-left, both-right, both-true}
 use Rattle.laws.proofs.Bits.{get-put, get-other, put-over, put-swap, put-back, Apart, apart-sym}
 use Rattle.slots.specs.Slots.{Slot, get, put, putAll, those, fits, apart, clear, sound, low, reads}
-
-either : (a b : Bool) → pick a true b ≡ true → (a ≡ true) ⊎ (b ≡ true)
-either true b e = inl refl
-either false b e = inr e
 
 -- ---- one slot, over plain numbers
 putAt : ℕ → ℕ → ℕ → ℕ → List ℕ → List ℕ

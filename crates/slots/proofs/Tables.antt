@@ -1,8 +1,9 @@
 -- Laws of a table of slots over words that agree, and of values that fit. By induction on the table.
-use Prim.Native.Nat.{ℕ, _^_, _<_}
+use Prim.Native.Nat.{ℕ, _^_, _≤_, _<_}
 use mathlib.Core.Path.{_≡_, refl, sym, ap, _∙_, subst}
 use mathlib.Core.Bool.{Bool, true, false}
 use mathlib.Core.List.{List, [], _∷_}
+use native.Mathlib.Omega.{arith}
 use lib.ListN.{getD}
 use borrow.Author.Tests.{ltb-true, lt-ltb}
 use Rattle.laws.specs.Pick.{pick}
@@ -11,6 +12,14 @@ use Rattle.laws.specs.Lists.{map}
 use Rattle.laws.proofs.Pick.{both-left, both-right, both-true}
 use Rattle.slots.specs.Slots.{Slot, get, put, putAll, those, fits, low, reads}
 use Rattle.slots.proofs.Slots.{get-small}
+
+-- a table within some words is within more
+pub low-more : {K : Type 0} (m n : ℕ) (t : List (Slot K)) → m ≤ n → low m t ≡ true → low n t ≡ true
+unfolding low
+low-more m n [] h l = refl
+low-more m n (s ∷ ss) h l =
+    let a : s .word < m = ltb-true _ _ (both-left _ _ l) in
+    both-true _ _ (lt-ltb (s .word) n (omega arith)) (low-more m n ss h (both-right _ _ l))
 
 -- a table reads alike in words that agree as far as it reaches
 pub reads-words : {K : Type 0} (n : ℕ) (t : List (Slot K)) (v : K → ℕ) (a b : List ℕ) → low n t ≡ true → ((i : ℕ) → i < n → getD a i 0 ≡ getD b i 0) → reads t v a → reads t v b

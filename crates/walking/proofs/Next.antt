@@ -1,14 +1,13 @@
 -- The next position is larger than the one given, and at most the length. Closed by induction on the packets that may still come.
 use Prim.Native.Nat.{ℕ, zero, suc, _+_, _-_, _*_, _≤_, _<_}
 use mathlib.Core.Path.{_≡_, refl, sym}
-use mathlib.Core.Bool.{Bool, true, false}
 use mathlib.Core.List.{List}
 use native.Mathlib.Omega.{arith}
 use lib.ListN.{length, getD}
 use lib.Dec.{ltb, leb, lit≤}
 use borrow.Author.Tests.{ltb-false, leb-true, le-leb}
-use Rattle.laws.specs.Pick.{pick, differ}
-use Rattle.laws.proofs.Pick.{here}
+use Rattle.laws.specs.Pick.{differ}
+use Rattle.laws.proofs.Pick.{picked, here}
 use Rattle.counts.specs.declared.PacketNumber.{PacketNumber}
 use Rattle.records.specs.declared.answers.Read.{Read}
 use Rattle.records.specs.declared.answers.Read.the-variants as R
@@ -20,11 +19,6 @@ use Rattle.standard.specs.declared.Framed.the-variants.{Whole, Short, Broken}
 use Rattle.standard.specs.Heads.{typeOf, formatOf, statusOf, streamType}
 use Rattle.standard.specs.Reading.{readOf}
 use Rattle.standard.specs.Walk.{sizeOf, stepOf, afterStep, framePacket, frameFrom, frameOf, walkedOf, part, framedOf, otherOf, walkOf, Onward}
-
--- what holds of both cases holds of the picked one
-picked : {A : Type 0} (P : A → Type 0) (b : Bool) (x y : A) → (b ≡ true → P x) → (b ≡ false → P y) → P (pick b x y)
-picked P true x y f g = f refl
-picked P false x y f g = g refl
 
 -- ---- framing
 -- the packets of a framed message lie within the words; a broken one has its first packet whole

@@ -6,7 +6,7 @@ use native.Mathlib.Omega.{arith}
 use lib.Dec.{ltb}
 use borrow.Author.Tests.{lt-ltb, le-ltb}
 use Rattle.laws.specs.Pick.{both}
-use Rattle.laws.proofs.Pick.{both-true, both-false}
+use Rattle.laws.proofs.Pick.{both-true, both-false, both-alone}
 use Rattle.slots.specs.Slots.{fits}
 use Rattle.kinds.specs.declared.choices.UiHint.{UiHint}
 use Rattle.kinds.specs.declared.choices.UiHint.the-variants as H
@@ -44,12 +44,6 @@ direction-fits D.Input = refl
 direction-fits D.Output = refl
 direction-fits D.Bidirectional = refl
 
--- a test with no other after it
-alone : (t : Bool) → both t true ≡ t
-unfolding both
-alone true = refl
-alone false = refl
-
 -- no number of a discovery
 pub discovery-fits : (e : EndpointDiscovery) → e .«ump_version_major» < 256 → e .«ump_version_minor» < 256 → fits discoveryFields (parts (valuesOf (M.EndpointDiscovery e))) ≡ true
 unfolding fits both fieldsIn lookup same decided partOf
@@ -61,7 +55,7 @@ module _ (e : EndpointInfo) (a : e .«ump_version_major» < 256) (b : e .«ump_v
   info-fits : fits infoFields (parts (valuesOf (M.EndpointInfo e))) ≡ ltb (e .«number_of_function_blocks») 128
   unfolding fits both fieldsIn lookup same decided partOf
   info-fits =
-      rw (lt-ltb (e .«ump_version_major») 256 a, lt-ltb (e .«ump_version_minor») 256 b, bit-fits (e .«static_function_blocks»), bit-fits (e .«supports_midi2_protocol»), bit-fits (e .«supports_midi1_protocol»), bit-fits (e .«supports_receiving_jr_timestamps»), bit-fits (e .«supports_sending_jr_timestamps»)) (alone _)
+      rw (lt-ltb (e .«ump_version_major») 256 a, lt-ltb (e .«ump_version_minor») 256 b, bit-fits (e .«static_function_blocks»), bit-fits (e .«supports_midi2_protocol»), bit-fits (e .«supports_midi1_protocol»), bit-fits (e .«supports_receiving_jr_timestamps»), bit-fits (e .«supports_sending_jr_timestamps»)) (both-alone _)
 
   pub info-small : e .«number_of_function_blocks» ≤ 127 → fits infoFields (parts (valuesOf (M.EndpointInfo e))) ≡ true
   info-small h = info-fits ∙ lt-ltb (e .«number_of_function_blocks») 128 (omega arith)
@@ -74,7 +68,7 @@ module _ (e : FunctionBlockInfo) (a : e .«number_of_groups_spanned» < 256) (b 
   block-fits : fits blockFields (parts (valuesOf (M.FunctionBlockInfo e))) ≡ both (ltb (e .«function_block_number») 128) (ltb (e .«first_group») 16)
   unfolding fits both fieldsIn lookup same decided partOf
   block-fits =
-      rw (lt-ltb (e .«number_of_groups_spanned») 256 a, lt-ltb (e .«midi_ci_version») 256 b, lt-ltb (e .«max_number_of_midi_ci_streams») 256 c, bit-fits (e .active), hint-fits (e .«ui_hint»), port-fits (e .«midi1_port»), direction-fits (e .direction)) (ap (both (ltb (e .«function_block_number») 128)) (alone _))
+      rw (lt-ltb (e .«number_of_groups_spanned») 256 a, lt-ltb (e .«midi_ci_version») 256 b, lt-ltb (e .«max_number_of_midi_ci_streams») 256 c, bit-fits (e .active), hint-fits (e .«ui_hint»), port-fits (e .«midi1_port»), direction-fits (e .direction)) (ap (both (ltb (e .«function_block_number») 128)) (both-alone _))
 
   pub block-small : e .«function_block_number» ≤ 127 → e .«first_group» ≤ 15 → fits blockFields (parts (valuesOf (M.FunctionBlockInfo e))) ≡ true
   block-small h i = block-fits ∙ both-true _ _ (lt-ltb (e .«function_block_number») 128 (omega arith)) (lt-ltb (e .«first_group») 16 (omega arith))
