@@ -5,7 +5,7 @@ use mathlib.Core.Bool.{Bool, true, false}
 use mathlib.Core.Logic.{_≢_}
 use mathlib.Core.List.{[], _∷_}
 use native.Mathlib.Omega.{arith}
-use lib.Dec.{eqb}
+use lib.Dec.{ltb, eqb}
 use Rattle.kinds.specs.declared.choices.UiHint.{UiHint}
 use Rattle.kinds.specs.declared.choices.UiHint.the-variants as H
 use Rattle.kinds.specs.declared.choices.Midi1Port.{Midi1Port}
@@ -71,6 +71,27 @@ pub no-code-direction : (d : Direction) → directionCode d ≢ 0
 no-code-direction D.Input e = omega arith
 no-code-direction D.Output e = omega arith
 no-code-direction D.Bidirectional e = omega arith
+
+-- ---- a flag and a code fit their bits
+pub bit-fits : (b : Bool) → ltb (bit b) 2 ≡ true
+bit-fits true = refl
+bit-fits false = refl
+
+pub hint-fits : (h : UiHint) → ltb (hintCode h) 4 ≡ true
+hint-fits H.Undeclared = refl
+hint-fits H.Receiver = refl
+hint-fits H.Sender = refl
+hint-fits H.SenderReceiver = refl
+
+pub port-fits : (p : Midi1Port) → ltb (portCode p) 4 ≡ true
+port-fits P.None = refl
+port-fits P.DontRestrictBandwidth = refl
+port-fits P.RestrictBandwidth = refl
+
+pub direction-fits : (d : Direction) → ltb (directionCode d) 4 ≡ true
+direction-fits D.Input = refl
+direction-fits D.Output = refl
+direction-fits D.Bidirectional = refl
 
 -- ---- the septets of a pair
 pub pair-low : (lo hi : ℕ) → lo < 128 → lo ≡ (lo + hi * 128) % 128

@@ -1,2 +1,4 @@
+pub mod Fields
 pub mod Rows
 pub mod Codes
+pub mod Homes

@@ -1,16 +1,21 @@
--- The table is right, row by row. Closed by computation: the tests are run over each row.
-use Prim.Native.Nat.{ℕ, _<_}
-use mathlib.Core.Path.{_≡_, refl}
-use mathlib.Core.Bool.{true}
+-- The table is right, row by row, and what that tells of a row. Closed by computation: the tests are run over each row.
+use Prim.Native.Nat.{ℕ, _≤_, _<_}
+use mathlib.Core.Path.{_≡_, refl, ap, _∙_}
+use mathlib.Core.Bool.{Bool, true, false}
 use mathlib.Core.List.{List, [], _∷_}
 use native.Mathlib.Omega.{arith}
-use Rattle.laws.specs.Pick.{both}
+use lib.Dec.{eqb, lit≤}
+use borrow.Author.Tests.{leb-true, eqb-true}
+use Rattle.laws.specs.Pick.{pick, both}
 use Rattle.laws.specs.Lists.{map}
-use Rattle.slots.specs.Slots.{Slot, mask, sound, clear, low, within, apart}
+use Rattle.laws.proofs.Pick.{never, both-left, both-right}
+use Rattle.slots.specs.Slots.{Slot, mask, fits, sound, clear, low, within, apart}
+use Rattle.slots.proofs.Tables.{low-more}
 use Rattle.kinds.specs.declared.kind.Kind.{Kind}
 use Rattle.kinds.specs.declared.kind.Kind.the-variants as K
 use Rattle.kinds.specs.declared.kind.Known.the-variants.{Is}
-use Rattle.kinds.specs.Layout.{Part, layout, kindOf, among, right, rightBody, discoveryFields, infoFields, identityFields, blockFields, nameFields}
+use Rattle.kinds.specs.Fields.{Text, start, partOf}
+use Rattle.kinds.specs.Layout.{Part, Body, fixed, texts, Row, layout, capacityIn, mostIn, kindOf, among, parts, headSlot, textSlot, right, rightBody, discoveryFields, infoFields, identityFields, blockFields, nameFields}
 
 -- no two fields of a kind share a bit, none touches the head or the text or leaves its word
 pub rows-right : (k : Kind) → right (layout k) ≡ true
@@ -34,6 +39,16 @@ status-kind K.ProductInstanceId = refl
 status-kind K.FunctionBlockInfo = refl
 status-kind K.FunctionBlockName = refl
 
+-- a kind that a status is known as has that status
+pub among-status : (ks : List Kind) (s : ℕ) (k : Kind) → among ks s ≡ Is k → s ≡ layout k .status
+unfolding among
+among-status [] s k e = never (cc)
+among-status (j ∷ ks) s k e = go (eqb s (layout j .status)) refl e (among-status ks s k)
+  where
+    go : (b : Bool) → eqb s (layout j .status) ≡ b → pick b (Is j) (among ks s) ≡ Is k → (among ks s ≡ Is k → s ≡ layout k .status) → s ≡ layout k .status
+    go true t q ih = let w : j ≡ k = cc in eqb-true s (layout j .status) t ∙ ap (λ (i : Kind). layout i .status) w
+    go false t q ih = ih q
+
 pub status-small : (k : Kind) → layout k .status < 0x400
 unfolding layout
 status-small K.EndpointDiscovery = omega arith
@@ -43,6 +58,77 @@ status-small K.EndpointName = omega arith
 status-small K.ProductInstanceId = omega arith
 status-small K.FunctionBlockInfo = omega arith
 status-small K.FunctionBlockName = omega arith
+
+-- ---- a row that is right, by its parts
+pub record RowRight (b : Body) (r : Row) : Type 0 where
+  pub sound : sound (r .fields) ≡ true
+  pub head : clear headSlot (r .fields) ≡ true
+  pub body : rightBody b (r .fields) ≡ true
+  pub bits : within 32 (r .fields) ≡ true
+  pub status : r .status < 0x400
+
+pub row-right : (k : Kind) → RowRight (layout k .body) (layout k)
+unfolding right
+row-right k =
+    let e = rows-right k in
+    record { sound = both-left _ _ e; head = both-left _ _ (both-right _ _ e); bits = both-left _ _ (both-right _ _ (both-right _ _ e)); body = both-right _ _ (both-right _ _ (both-right _ _ e)); status = status-small k }
+
+body-low : (b : Body) (t : List (Slot Part)) → rightBody b t ≡ true → low 4 t ≡ true
+unfolding rightBody
+body-low fixed t e = e
+body-low (texts x from) t e = low-more 1 4 t (omega arith) (both-right _ _ (both-right _ _ e))
+
+-- its slots are in the four words of a packet
+pub row-low : (k : Kind) → low 4 (layout k .fields) ≡ true
+row-low k = body-low (layout k .body) (layout k .fields) (row-right k .body)
+
+-- what a text kind's row keeps
+pub record TextRow (r : Row) (from : ℕ) : Type 0 where
+  pub sound : sound (r .fields) ≡ true
+  pub head : clear headSlot (r .fields) ≡ true
+  pub text : clear (textSlot from) (r .fields) ≡ true
+  pub first : low 1 (r .fields) ≡ true
+  pub bits : within 32 (r .fields) ≡ true
+  pub least : 2 ≤ from
+  pub most : from ≤ 15
+  pub status : r .status < 0x400
+
+pub text-row : (r : Row) (x : Text) (from : ℕ) → RowRight (texts x from) r → TextRow r from
+unfolding rightBody
+text-row r x from k =
+    let e = k .body in
+    record {
+      sound = k .sound;
+      head = k .head;
+      text = both-left _ _ (both-right _ _ e);
+      first = both-right _ _ (both-right _ _ e);
+      bits = k .bits;
+      least = leb-true _ _ (both-left _ _ (both-left _ _ e));
+      most = leb-true _ _ (both-right _ _ (both-left _ _ e));
+      status = k .status;
+    }
+
+-- ---- packets and values of every kind
+-- no message has more than 64 packets
+pub most-64 : (b : Body) → mostIn b ≤ 64
+most-64 fixed = lit≤ tt
+most-64 (texts t from) = lit≤ tt
+
+-- text takes no more than a packet's sixteen octets
+pub capacity-16 : (b : Body) → capacityIn b ≤ 16
+capacity-16 fixed = omega arith
+capacity-16 (texts x from) = omega arith
+
+-- the starting values of each kind fit
+pub start-fits : (k : Kind) → fits (layout k .fields) (parts start) ≡ true
+unfolding fits layout both start partOf
+start-fits K.EndpointDiscovery = refl
+start-fits K.EndpointInfo = refl
+start-fits K.DeviceIdentity = refl
+start-fits K.EndpointName = refl
+start-fits K.ProductInstanceId = refl
+start-fits K.FunctionBlockInfo = refl
+start-fits K.FunctionBlockName = refl
 
 -- the masks that the slots give are those of the Rust's schemas, in the table's order
 abbrev masks : List (Slot Part) → List ℕ

@@ -14,6 +14,7 @@ use Rattle.text.specs.Bytes.{textOf}
 use Rattle.kinds.specs.declared.kind.Kind.{Kind}
 use Rattle.kinds.specs.Fields.{Field, Setting, fieldIn, valueIn, same, start}
 use Rattle.kinds.specs.Layout.{Body, fixed, texts, layout, capacityOf, mostIn, parts}
+use Rattle.kinds.proofs.Rows.{row-right, start-fits}
 use Rattle.records.specs.declared.answers.Answer.{Answer}
 use Rattle.records.specs.declared.answers.Answer.the-variants as A
 use Rattle.records.specs.declared.answers.Read.the-variants as R
@@ -33,7 +34,7 @@ use Rattle.standard.proofs.Walks.{formed-walk}
 use Rattle.promises.proofs.Values.{values-hold}
 use Rattle.promises.proofs.Laid.{Laid, laid-formed}
 use Rattle.promises.proofs.Changed.{accepted, good-with}
-use Rattle.promises.proofs.Bodies.{row-right, start-fits, in-length, in-fresh, in-laid, in-acted}
+use Rattle.promises.proofs.Bodies.{in-length, in-fresh, in-laid, in-acted}
 
 module _ (k : Kind) (ws : List ℕ) (l : 4 ≤ length ws) where
   -- A FRESH MESSAGE is the buffer of the starting values

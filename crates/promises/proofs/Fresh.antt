@@ -21,7 +21,7 @@ use Rattle.standard.specs.Words.{putWord, headOf, encodeIn}
 use Rattle.promises.proofs.OneWord.{put-first}
 use Rattle.promises.proofs.TextHead.{empty-first, head-first}
 use Rattle.text.proofs.Rewritten.{head-zero}
-use Rattle.promises.proofs.Texts.{TextRow}
+use Rattle.kinds.proofs.Rows.{TextRow}
 
 -- ---- blank words: the head, and what comes after it whatever the head
 after : ℕ → List ℕ → List ℕ

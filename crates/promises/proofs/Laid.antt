@@ -1,23 +1,20 @@
 -- What the buffer of given values holds, packet by packet, and that it is then a message of their record. Closed by fields of a head.
 use Prim.Native.Nat.{ℕ, _*_, _≤_, _<_}
 use mathlib.Core.Path.{_≡_, subst}
-use mathlib.Core.Bool.{true}
 use mathlib.Core.List.{List}
 use native.Mathlib.Omega.{arith}
 use lib.ListN.{length, take}
 use Rattle.laws.specs.Bits.{fieldOf}
 use Rattle.laws.specs.Lists.{nonzero}
-use Rattle.laws.proofs.Pick.{both-right}
-use Rattle.slots.specs.Slots.{Slot, low, reads}
-use Rattle.slots.proofs.Tables.{low-more}
+use Rattle.slots.specs.Slots.{reads}
 use Rattle.utf8.proofs.Zeros.{nonzero-valid}
 use Rattle.text.specs.Octets.{due}
 use Rattle.text.specs.Bytes.{textOf}
 use Rattle.text.proofs.Needed.{due-small}
 use Rattle.kinds.specs.declared.kind.Kind.{Kind}
 use Rattle.kinds.specs.Fields.{Field}
-use Rattle.kinds.specs.Layout.{Part, Body, fixed, texts, Row, layout, capacityIn, parts, right, rightBody}
-use Rattle.kinds.proofs.Rows.{rows-right, status-small}
+use Rattle.kinds.specs.Layout.{Body, Row, layout, capacityIn, parts}
+use Rattle.kinds.proofs.Rows.{status-small, row-low, capacity-16}
 use Rattle.records.specs.Records.{kindIn, packetsIn, recordOf}
 use Rattle.standard.specs.Heads.{typeOf, formatOf, statusOf, streamType, headWord, packetFrom, headAt}
 use Rattle.standard.specs.Formed.{Formed}
@@ -40,20 +37,6 @@ pub record Laid (b : Body) (r : Row) (n : ℕ) (v : Field → List ℕ) (ws : Li
   pub heads : (p : ℕ) → p < n → headBits (headAt ws p) ≡ headBits (headWord (r .status) (due n p))
   pub fields : (p : ℕ) → p < n → reads (r .fields) (parts v) (packetFrom ws p)
   pub text : textOf ws (capacityIn b) n ≡ nonzero (textFor b v)
-
--- ---- what every row keeps
-body-low : (b : Body) (t : List (Slot Part)) → rightBody b t ≡ true → low 4 t ≡ true
-unfolding rightBody
-body-low fixed t e = e
-body-low (texts x from) t e = low-more 1 4 t (omega arith) (both-right _ _ (both-right _ _ e))
-
-capacity-16 : (b : Body) → capacityIn b ≤ 16
-capacity-16 fixed = omega arith
-capacity-16 (texts x from) = omega arith
-
-row-low : (k : Kind) → low 4 (layout k .fields) ≡ true
-unfolding right
-row-low k = body-low (layout k .body) (layout k .fields) (both-right _ _ (both-right _ _ (both-right _ _ (rows-right k))))
 
 -- ---- THE MESSAGE: its record, and its text with zeros dropped
 module _ (k : Kind) (room : ℕ) (v : Field → List ℕ) (ws : List ℕ) (g : Good k room v) (l : Laid (layout k .body) (layout k) (packetsFor (layout k .body) v) v ws) where

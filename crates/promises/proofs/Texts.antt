@@ -9,7 +9,7 @@ use lib.Seq.{getD-drop}
 use Rattle.laws.specs.Lists.{nonzero}
 use Rattle.laws.proofs.Bits.{get-above}
 use Rattle.laws.proofs.Pick.{split}
-use Rattle.slots.specs.Slots.{get, putAll, fits, clear, sound, low, reads}
+use Rattle.slots.specs.Slots.{get, putAll, fits, sound, reads}
 use Rattle.slots.proofs.Slots.{get-clear, reads-all}
 use Rattle.utf8.proofs.Small.{valid-small}
 use Rattle.text.specs.Octets.{needed, due}
@@ -19,30 +19,20 @@ use Rattle.text.proofs.Written.{length-written, word-at}
 use Rattle.text.proofs.Back.{text-back}
 use Rattle.text.proofs.Needed.{needed-holds, needed-some, due-small}
 use Rattle.kinds.specs.Fields.{Text, Field, Setting, fieldIn, valueIn, textIn, same}
-use Rattle.kinds.specs.Layout.{Part, texts, Row, slotsOf, parts, valuesIn, headSlot, textSlot}
+use Rattle.kinds.specs.Layout.{Part, texts, Row, slotsOf, parts, valuesIn, headSlot}
 use Rattle.records.specs.Settings.{with}
 use Rattle.standard.specs.Heads.{headWord, packetsOf, packetFrom, headAt}
 use Rattle.standard.specs.Words.{putWord, headOf, textWritten, encodeIn, actIn}
 use Rattle.promises.specs.Good.{GoodIn}
-use Rattle.slots.specs.Slots.{within}
 use Rattle.slots.proofs.Tables.{reads-words, put-alike}
 use Rattle.promises.proofs.OneWord.{put-those-word}
 use Rattle.promises.proofs.TextHead.{lowText, first-splits, head-small, head-first}
 use Rattle.text.proofs.Rewritten.{written-over, each-first}
+use Rattle.kinds.proofs.Rows.{TextRow}
+use Rattle.kinds.proofs.Fields.{same-true, same-refl, same-swap, value-text}
 use Rattle.promises.proofs.Laid.{headBits, Laid}
-use Rattle.promises.proofs.With.{same-true, same-refl, same-swap, parts-with, parts-text, value-text}
+use Rattle.promises.proofs.With.{parts-with, parts-text}
 use Rattle.promises.proofs.Changed.{Accepted, good-with}
-
--- what a text kind's row keeps
-pub record TextRow (r : Row) (from : ℕ) : Type 0 where
-  pub sound : sound (r .fields) ≡ true
-  pub head : clear headSlot (r .fields) ≡ true
-  pub text : clear (textSlot from) (r .fields) ≡ true
-  pub first : low 1 (r .fields) ≡ true
-  pub bits : within 32 (r .fields) ≡ true
-  pub least : 2 ≤ from
-  pub most : from ≤ 15
-  pub status : r .status < 0x400
 
 module _ (r : Row) (x : Text) (from : ℕ) (k : TextRow r from) (ws : List ℕ) where
   abbrev cap : ℕ

@@ -1,6 +1,5 @@
 pub mod Records
 pub mod Settings
-pub mod Homes
 pub mod Others
 pub mod Promises
 pub mod Numbers

@@ -14,13 +14,13 @@ use Rattle.kinds.specs.declared.kind.Kind.the-variants as K
 use Rattle.kinds.specs.declared.refusal.Refusal.the-variants.{NoSuchField}
 use Rattle.kinds.specs.Fields.{Number, Field, Setting, fieldIn}
 use Rattle.kinds.specs.Layout.{layout, none, slotsOf}
+use Rattle.kinds.proofs.Homes.{one-status, elsewhere}
 use Rattle.records.specs.declared.message.Message.{Message}
 use Rattle.records.specs.declared.message.Message.the-variants as M
 use Rattle.records.specs.declared.answers.Answer.the-variants as A
 use Rattle.records.specs.Records.{kindIn}
 use Rattle.records.specs.Settings.{edited, setRecord}
 use Rattle.records.proofs.message.Message.{the-type}
-use Rattle.records.proofs.Homes.{one-status, elsewhere}
 use Rattle.records.proofs.Settings.{lacking}
 
 -- the place of a kind's record among the variants

@@ -14,9 +14,11 @@ use Rattle.kinds.specs.declared.kind.Kind.the-variants as K
 use Rattle.kinds.specs.declared.refusal.Refusal.{Refusal}
 use Rattle.kinds.specs.declared.refusal.Refusal.the-variants.{NumberTooLarge, NoSuchField}
 use Rattle.kinds.specs.Choices.{hintCode, hintOf, portCode, portOf, directionCode, directionOf}
-use Rattle.kinds.specs.Fields.{Text, Field, Setting, same, decided, Field-discrete, Flag-discrete, Number-discrete, Pair-discrete, Text-discrete, fieldIn, valueIn, bit, start}
+use Rattle.kinds.specs.Fields.{Text, Field, Setting, same, decided, fieldIn, valueIn, bit, start}
 use Rattle.kinds.specs.Layout.{layout}
 use Rattle.kinds.proofs.Codes.{bit-flag, hint-back, port-back, direction-back}
+use Rattle.kinds.proofs.Homes.{all, passes}
+use Rattle.kinds.proofs.Fields.{same-true, same-refl}
 use Rattle.records.specs.declared.message.Message.{Message}
 use Rattle.records.specs.declared.message.Message.the-variants as M
 use Rattle.records.specs.declared.answers.Answer.the-variants as A
@@ -24,7 +26,6 @@ use Rattle.records.specs.declared.answers.Edited.{Edited}
 use Rattle.records.specs.Records.{Valued, kindIn, packetsIn, recordOf, fieldsIn, lookup, valuesOf, firstPart, inOrder}
 use Rattle.records.specs.Settings.{with, lacks, tooLarge, edited, setRecord, setEdited, followed}
 use Rattle.records.proofs.Records.{record-back}
-use Rattle.records.proofs.Homes.{one-field, all, passes}
 use Rattle.records.proofs.Settings.{lacking, too-large, made, no-text}
 
 -- ---- the three outcomes
@@ -100,7 +101,7 @@ lookup-kept w [] g = refl
 lookup-kept w (f ∷ fs) g = go (same f g) refl (lookup-kept w fs g)
   where
     go : (b : Bool) → same f g ≡ b → lookup (map (kept w) fs) g ≡ pick (isIn g fs) (w g) (start g) → pick b (w f) (lookup (map (kept w) fs) g) ≡ pick (pick b true (isIn g fs)) (w g) (start g)
-    go true q ih = ap w (one-field f g q)
+    go true q ih = ap w (same-true f g q)
     go false q ih = ih
 
 values-kept : (k : Kind) (n : ℕ) (v : Field → List ℕ) (g : Field) → valuesOf (recordOf k n v) g ≡ pick (isIn g (inOrder k)) (again g (v g)) (start g)
@@ -116,14 +117,6 @@ rows-in K.EndpointName = refl
 rows-in K.ProductInstanceId = refl
 rows-in K.FunctionBlockInfo = refl
 rows-in K.FunctionBlockName = refl
-
-is-self : (f : Field) → same f f ≡ true
-unfolding same decided
-is-self f = go (Field-discrete Flag-discrete Number-discrete Pair-discrete Text-discrete f f)
-  where
-    go : (d : Dec (f ≡ f)) → decided d ≡ true
-    go (yes p) = refl
-    go (no n) = absurd (n refl)
 
 new-kind : (m : Message) (v : Field → List ℕ) → kindIn (recordOf (kindIn m) (packetsIn m) v) ≡ kindIn m
 unfolding recordOf
@@ -151,7 +144,7 @@ module _ (s : Setting) (m : Message) where
   unfolding newRecord
   set-reads e =
       let a = accepted s m e in
-      rw (a .1) (values-kept (kindIn m) (packetsIn m) (with (fieldIn s) (valueIn s) (valuesOf m)) (fieldIn s) ∙ rw (passes (λ f. isIn f (inOrder (kindIn m))) (layout (kindIn m) .fields) (fieldIn s) (rows-in (kindIn m)) (a .0), is-self (fieldIn s)) (again-all s))
+      rw (a .1) (values-kept (kindIn m) (packetsIn m) (with (fieldIn s) (valueIn s) (valuesOf m)) (fieldIn s) ∙ rw (passes (λ f. isIn f (inOrder (kindIn m))) (layout (kindIn m) .fields) (fieldIn s) (rows-in (kindIn m)) (a .0), same-refl (fieldIn s)) (again-all s))
 
   pub set-keeps : (g : Field) → same g (fieldIn s) ≡ false → valuesOf (setRecord s m .message) g ≡ valuesOf m g
   unfolding newRecord

@@ -8,10 +8,9 @@ use native.Mathlib.Omega.{arith}
 use lib.Dec.{ltb}
 use borrow.Author.Tests.{lt-ltb, le-ltb, ltb-true, not-false}
 use Rattle.laws.specs.Pick.{both}
-use Rattle.laws.proofs.Pick.{here, past, below, both-left, both-right}
+use Rattle.laws.proofs.Pick.{here, past, below, both-left, both-right, both-alone}
 use Rattle.slots.specs.Slots.{those, fits}
 use Rattle.kinds.specs.declared.choices.UiHint.{UiHint}
-use Rattle.kinds.specs.declared.choices.UiHint.the-variants as H
 use Rattle.kinds.specs.declared.choices.Midi1Port.{Midi1Port}
 use Rattle.kinds.specs.declared.choices.Midi1Port.the-variants as P
 use Rattle.kinds.specs.declared.choices.Direction.{Direction}
@@ -20,6 +19,7 @@ use Rattle.kinds.specs.declared.refusal.Refusal.the-variants.{NumberTooLarge, N
 use Rattle.kinds.specs.Choices.{hintCode, portCode, directionCode}
 use Rattle.kinds.specs.Fields.{Setting, Text, fieldIn, valueIn, bit, same, decided, partOf}
 use Rattle.kinds.specs.Layout.{layout}
+use Rattle.kinds.proofs.Codes.{bit-fits, hint-fits, port-fits, direction-fits}
 use Rattle.records.specs.declared.message.Message.{Message}
 use Rattle.records.specs.declared.message.Message.the-variants as M
 use Rattle.records.specs.declared.answers.Answer.the-variants as A
@@ -91,25 +91,13 @@ large-pair x h = rw (lt-ltb (x % 128) 128 (omega arith), le-ltb (x / 128) 128 (o
 
 -- a flag and a choice are never too large
 pub small-flag : (b : Bool) → not (both (ltb (bit b) 2) true) ≡ false
-unfolding both
-small-flag true = refl
-small-flag false = refl
+small-flag b = rw (both-alone _, bit-fits b)
 
 pub small-hint : (h : UiHint) → not (both (ltb (hintCode h) 4) true) ≡ false
-unfolding both
-small-hint H.Undeclared = refl
-small-hint H.Receiver = refl
-small-hint H.Sender = refl
-small-hint H.SenderReceiver = refl
+small-hint h = rw (both-alone _, hint-fits h)
 
 pub small-port : (p : Midi1Port) → not (both (ltb (portCode p) 4) true) ≡ false
-unfolding both
-small-port P.None = refl
-small-port P.DontRestrictBandwidth = refl
-small-port P.RestrictBandwidth = refl
+small-port p = rw (both-alone _, port-fits p)
 
 pub small-direction : (d : Direction) → not (both (ltb (directionCode d) 4) true) ≡ false
-unfolding both
-small-direction D.Input = refl
-small-direction D.Output = refl
-small-direction D.Bidirectional = refl
+small-direction d = rw (both-alone _, direction-fits d)

@@ -3,18 +3,16 @@ use Prim.Native.Nat.{ℕ, _≤_}
 use mathlib.Core.Path.{_≡_, refl, sym, ap, _∙_}
 use mathlib.Core.Bool.{Bool, true, false, not}
 use mathlib.Core.List.{List}
-use Rattle.laws.specs.Pick.{pick, both, differ}
-use Rattle.laws.proofs.Pick.{never, both-left, both-right, split, eq-differ, differ-false}
+use Rattle.laws.specs.Pick.{pick, differ}
+use Rattle.laws.proofs.Pick.{never, split, eq-differ, differ-false}
 use Rattle.counts.specs.Counts.{packet}
 use Rattle.counts.specs.declared.PacketNumber.{PacketNumber}
 use Rattle.kinds.specs.declared.refusal.Refusal.{Refusal}
 use Rattle.kinds.specs.declared.refusal.Refusal.the-variants.{NoSuchField}
 use Rattle.kinds.specs.declared.kind.Kind.{Kind}
-use Rattle.kinds.specs.declared.kind.Kind.the-variants as K
-use Rattle.kinds.specs.declared.kind.Known.the-variants.{Is}
 use Rattle.kinds.specs.Fields.{Setting}
-use Rattle.kinds.specs.Layout.{layout, kindOf}
-use Rattle.kinds.proofs.Rows.{status-kind}
+use Rattle.kinds.specs.Layout.{layout}
+use Rattle.kinds.proofs.Homes.{one-status, everyKind, at-kind}
 use Rattle.records.specs.declared.message.Message.{Message}
 use Rattle.records.specs.declared.answers.Walked.{Walked}
 use Rattle.records.specs.declared.answers.Walked.the-variants as W
@@ -25,22 +23,6 @@ use Rattle.standard.specs.Words.{Left, left, unchanged, missing, answerTo, afte
 use Rattle.settings.specs.declared.target.Target.the-variants as T
 use Rattle.settings.specs.Target.{ownIn, targetOf}
 use Rattle.settings.proofs.Room.{message-room}
-
--- ---- a test of every kind
-unfoldable pub everyKind : (Kind → Bool) → Bool
-everyKind t =
-    both (t K.EndpointDiscovery) (both (t K.EndpointInfo) (both (t K.DeviceIdentity) (both (t K.EndpointName)
-    (both (t K.ProductInstanceId) (both (t K.FunctionBlockInfo) (t K.FunctionBlockName))))))
-
-at-kind : (t : Kind → Bool) → everyKind t ≡ true → (k : Kind) → t k ≡ true
-unfolding everyKind
-at-kind t e K.EndpointDiscovery = both-left _ _ e
-at-kind t e K.EndpointInfo = both-left _ _ (both-right _ _ e)
-at-kind t e K.DeviceIdentity = both-left _ _ (both-right _ _ (both-right _ _ e))
-at-kind t e K.EndpointName = both-left _ _ (both-right _ _ (both-right _ _ (both-right _ _ e)))
-at-kind t e K.ProductInstanceId = both-left _ _ (both-right _ _ (both-right _ _ (both-right _ _ (both-right _ _ e))))
-at-kind t e K.FunctionBlockInfo = both-left _ _ (both-right _ _ (both-right _ _ (both-right _ _ (both-right _ _ (both-right _ _ e)))))
-at-kind t e K.FunctionBlockName = both-right _ _ (both-right _ _ (both-right _ _ (both-right _ _ (both-right _ _ (both-right _ _ e)))))
 
 -- two tests say the same
 abbrev pub alike : Bool → Bool → Bool
@@ -63,12 +45,6 @@ module _ (k : Kind) (s : Setting) (own : ownedBy k s ≡ true) where
 
   pub own-has : missing (layout k) s ≡ false
   own-has = lacking k ∙ eq-differ (layout k .status) _ refl
-
--- kinds of one status are one
-one-kind : (j k : Kind) → layout j .status ≡ layout k .status → j ≡ k
-one-kind j k e =
-    let q : Is j ≡ Is k = sym (status-kind j) ∙ ap kindOf e ∙ status-kind k in
-    cc
 
 -- what an accepted or refused setting leaves of a message of n packets of a kind
 abbrev pub setOwn : Kind → ℕ → Setting → List ℕ → Left
@@ -104,7 +80,7 @@ module _ (k : Kind) (s : Setting) (own : ownedBy k s ≡ true) (ws : List ℕ) w
   message-own m {n} e =
       split (differ (layout (kindIn m) .status) (layout k .status))
       (λ d. never (refused-packets (rw d at e)))
-      (λ d. (one-kind (kindIn m) k (differ-false _ _ d), packets-is (rw d at e)))
+      (λ d. (one-status (kindIn m) k (differ-false _ _ d), packets-is (rw d at e)))
     where
       refused-packets : {a : Refusal} {b : PacketNumber} → T.Refused a ≡ T.Packets b → _≡_ {A = ℕ} 0 1
       refused-packets z = cc

@@ -17,6 +17,7 @@ use Rattle.kinds.specs.declared.refusal.Refusal.{Refusal}
 use Rattle.kinds.specs.declared.refusal.Refusal.the-variants.{NumberTooLarge}
 use Rattle.kinds.specs.Fields.{Setting, fieldIn, valueIn, textIn, partOf, same, decided}
 use Rattle.kinds.specs.Layout.{Part, Row, Body, fixed, layout, slotsOf, parts}
+use Rattle.kinds.proofs.Homes.{everyKind}
 use Rattle.records.specs.declared.answers.Answer.the-variants as A
 use Rattle.records.specs.Settings.{tooLarge}
 use Rattle.standard.specs.Heads.{packetsOf}
@@ -29,7 +30,7 @@ use Rattle.settings.specs.declared.target.Target.the-variants as T
 use Rattle.settings.specs.Target.{targetOf, settled}
 use Rattle.settings.specs.Fixed.{fitted, slotOn, septetsOn}
 use Rattle.settings.proofs.Left.{settled-refused, settled-own}
-use Rattle.settings.proofs.Owned.{everyKind, ownedBy, own-has, Own, set-refused, set-own}
+use Rattle.settings.proofs.Owned.{ownedBy, own-has, Own, set-refused, set-own}
 
 -- ---- how the code reaches each case
 module _ (status word at span v : ℕ) (ws : List ℕ) where

@@ -13,6 +13,7 @@ use Rattle.laws.proofs.Pick.{past, eq-differ}
 use Rattle.counts.specs.Counts.{packet, word}
 use Rattle.text.specs.Octets.{due}
 use Rattle.kinds.specs.Layout.{layout}
+use Rattle.kinds.proofs.Rows.{most-64}
 use Rattle.records.specs.declared.message.Message.{Message}
 use Rattle.records.specs.declared.answers.Walked.the-variants as W
 use Rattle.records.specs.Records.{kindIn, packetsIn}
@@ -23,7 +24,6 @@ use Rattle.standard.specs.Heads.{typeOf, streamType, headAt}
 use Rattle.standard.specs.Formed.{Formed}
 use Rattle.standard.specs.Walk.{stepOf, afterStep, framePacket, frameFrom, frameOf, part, framedOf, walkOf}
 use Rattle.standard.proofs.Formed.{formed-read}
-use Rattle.standard.proofs.Rules.{most-64}
 
 -- ---- a packet's first word in the part and in the stream
 pub part-head : (ws : List ℕ) (pos n p : ℕ) → p < n → headAt (part ws pos n) p ≡ getD ws (pos + p * 4) 0

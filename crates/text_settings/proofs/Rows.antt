@@ -17,6 +17,7 @@ use Rattle.kinds.specs.declared.kind.Kind.{Kind}
 use Rattle.kinds.specs.declared.refusal.Refusal.the-variants.{TooManyPackets, NotUtf8, NumberTooLarge, NoRoom}
 use Rattle.kinds.specs.Fields.{Text, Field, Setting, fieldIn, valueIn, partOf, same, decided}
 use Rattle.kinds.specs.Layout.{Part, Row, Body, texts, layout, slotsOf, parts, valuesIn}
+use Rattle.kinds.proofs.Homes.{everyKind}
 use Rattle.records.specs.declared.answers.Answer.{Answer}
 use Rattle.records.specs.declared.answers.Answer.the-variants as A
 use Rattle.standard.specs.Heads.{packetsOf}
@@ -29,7 +30,7 @@ use Rattle.settings.specs.declared.target.Target.{Target}
 use Rattle.settings.specs.declared.target.Target.the-variants as T
 use Rattle.settings.specs.Target.{targetOf, settled}
 use Rattle.settings.specs.Fixed.{fitted}
-use Rattle.settings.proofs.Owned.{everyKind, ownedBy, own-has, Own, set-refused, set-own}
+use Rattle.settings.proofs.Owned.{ownedBy, own-has, Own, set-refused, set-own}
 use Rattle.settings.proofs.Slots.{facts, plain, one, is-own, is-narrow, is-body, are-slots, answer-is}
 use Rattle.text_settings.specs.Texts.{roomOf, planOf, carried, textOn, eachOn}
 

@@ -1,48 +1,24 @@
 -- Which numbers of a record can be too large for their fields. Closed by the ranges of its numbers; the table is computed.
 use Prim.Native.Nat.{_<_, _≤_}
-use mathlib.Core.Path.{_≡_, refl, ap, _∙_}
-use mathlib.Core.Bool.{Bool, true, false}
+use mathlib.Core.Path.{_≡_, ap, _∙_}
+use mathlib.Core.Bool.{true, false}
 use native.Mathlib.Omega.{arith}
 use lib.Dec.{ltb}
 use borrow.Author.Tests.{lt-ltb, le-ltb}
 use Rattle.laws.specs.Pick.{both}
 use Rattle.laws.proofs.Pick.{both-true, both-false, both-alone}
 use Rattle.slots.specs.Slots.{fits}
-use Rattle.kinds.specs.declared.choices.UiHint.{UiHint}
 use Rattle.kinds.specs.declared.choices.UiHint.the-variants as H
-use Rattle.kinds.specs.declared.choices.Midi1Port.{Midi1Port}
 use Rattle.kinds.specs.declared.choices.Midi1Port.the-variants as P
-use Rattle.kinds.specs.declared.choices.Direction.{Direction}
 use Rattle.kinds.specs.declared.choices.Direction.the-variants as D
-use Rattle.kinds.specs.Choices.{hintCode, portCode, directionCode}
-use Rattle.kinds.specs.Fields.{bit, same, decided, partOf}
+use Rattle.kinds.specs.Fields.{same, decided, partOf}
 use Rattle.kinds.specs.Layout.{discoveryFields, infoFields, blockFields, parts}
+use Rattle.kinds.proofs.Codes.{bit-fits, hint-fits, port-fits, direction-fits}
 use Rattle.records.specs.declared.endpoint_discovery.EndpointDiscovery.{EndpointDiscovery}
 use Rattle.records.specs.declared.endpoint_info.EndpointInfo.{EndpointInfo}
 use Rattle.records.specs.declared.function_block_info.FunctionBlockInfo.{FunctionBlockInfo}
 use Rattle.records.specs.declared.message.Message.the-variants as M
 use Rattle.records.specs.Records.{fieldsIn, lookup, valuesOf}
-
--- a flag and a code fit their bits
-bit-fits : (b : Bool) → ltb (bit b) 2 ≡ true
-bit-fits true = refl
-bit-fits false = refl
-
-hint-fits : (h : UiHint) → ltb (hintCode h) 4 ≡ true
-hint-fits H.Undeclared = refl
-hint-fits H.Receiver = refl
-hint-fits H.Sender = refl
-hint-fits H.SenderReceiver = refl
-
-port-fits : (p : Midi1Port) → ltb (portCode p) 4 ≡ true
-port-fits P.None = refl
-port-fits P.DontRestrictBandwidth = refl
-port-fits P.RestrictBandwidth = refl
-
-direction-fits : (d : Direction) → ltb (directionCode d) 4 ≡ true
-direction-fits D.Input = refl
-direction-fits D.Output = refl
-direction-fits D.Bidirectional = refl
 
 -- no number of a discovery
 pub discovery-fits : (e : EndpointDiscovery) → e .«ump_version_major» < 256 → e .«ump_version_minor» < 256 → fits discoveryFields (parts (valuesOf (M.EndpointDiscovery e))) ≡ true

@@ -8,22 +8,13 @@ use borrow.Author.Tests.{eqb-true}
 use Rattle.laws.specs.Pick.{pick, both}
 use Rattle.laws.proofs.Pick.{true-false, both-left, both-right, split}
 use Rattle.slots.specs.Slots.{Slot, those}
 use Rattle.kinds.specs.declared.kind.Kind.{Kind}
 use Rattle.kinds.specs.declared.kind.Kind.the-variants as K
 use Rattle.kinds.specs.declared.kind.Known.the-variants.{Is}
-use Rattle.kinds.specs.Fields.{Field, same, decided, Field-discrete, Flag-discrete, Number-discrete, Pair-discrete, Text-discrete}
+use Rattle.kinds.specs.Fields.{Field, same, decided}
 use Rattle.kinds.specs.Layout.{Part, layout, kinds, kindOf, none, slotsOf}
 use Rattle.kinds.proofs.Rows.{status-kind}
-
-holds : {A : Type 0} (d : Dec A) → decided d ≡ true → A
-unfolding decided
-holds (yes a) e = a
-holds (no n) e = true-false (sym e)
-
--- a test of two fields that holds
-pub one-field : (f g : Field) → same f g ≡ true → f ≡ g
-unfolding same
-one-field f g e = holds (Field-discrete Flag-discrete Number-discrete Pair-discrete Text-discrete f g) e
+use Rattle.kinds.proofs.Fields.{same-true}
 
 -- ---- a test that each field of a table passes, a field of the table passes
 unfoldable pub all : (Field → Bool) → List (Slot Part) → Bool
@@ -36,7 +27,7 @@ passes p [] f h e = true-false e
 passes p (s ∷ ss) f h e = go (same (s .key .field) f) refl e (passes p ss f (both-right _ _ h))
   where
     go : (b : Bool) → same (s .key .field) f ≡ b → none (pick b (s ∷ slotsOf f ss) (slotsOf f ss)) ≡ false → (none (slotsOf f ss) ≡ false → p f ≡ true) → p f ≡ true
-    go true q e′ ih = ap p (sym (one-field _ _ q)) ∙ both-left _ _ h
+    go true q e′ ih = ap p (sym (same-true _ _ q)) ∙ both-left _ _ h
     go false q e′ ih = ih e′
 
 -- ---- the status of the first of some kinds that has a field
@@ -68,3 +59,19 @@ one-kind j k f a b = one-status j k (sym (home-is j f a) ∙ home-is k f b)
 -- so every other kind lacks it
 pub elsewhere : (k j : Kind) (f : Field) → none (slotsOf f (layout k .fields)) ≡ false → (j ≡ k → ⊥) → none (slotsOf f (layout j .fields)) ≡ true
 elsewhere k j f h n = split (none (slotsOf f (layout j .fields))) (λ e. e) (λ e. absurd (n (one-kind j k f e h)))
+
+-- ---- a test of every kind
+unfoldable pub everyKind : (Kind → Bool) → Bool
+everyKind t =
+    both (t K.EndpointDiscovery) (both (t K.EndpointInfo) (both (t K.DeviceIdentity) (both (t K.EndpointName)
+    (both (t K.ProductInstanceId) (both (t K.FunctionBlockInfo) (t K.FunctionBlockName))))))
+
+pub at-kind : (t : Kind → Bool) → everyKind t ≡ true → (k : Kind) → t k ≡ true
+unfolding everyKind
+at-kind t e K.EndpointDiscovery = both-left _ _ e
+at-kind t e K.EndpointInfo = both-left _ _ (both-right _ _ e)
+at-kind t e K.DeviceIdentity = both-left _ _ (both-right _ _ (both-right _ _ e))
+at-kind t e K.EndpointName = both-left _ _ (both-right _ _ (both-right _ _ (both-right _ _ e)))
+at-kind t e K.ProductInstanceId = both-left _ _ (both-right _ _ (both-right _ _ (both-right _ _ (both-right _ _ e))))
+at-kind t e K.FunctionBlockInfo = both-left _ _ (both-right _ _ (both-right _ _ (both-right _ _ (both-right _ _ (both-right _ _ e)))))
+at-kind t e K.FunctionBlockName = both-right _ _ (both-right _ _ (both-right _ _ (both-right _ _ (both-right _ _ (both-right _ _ e)))))
