@@ -6,7 +6,6 @@ use mathlib.Core.List.{List}
 use lib.ListN.{length}
 use Rattle.slots.specs.Slots.{putAll, fits, sound, reads}
 use Rattle.text.specs.Written.{blank}
-use Rattle.kinds.specs.declared.kind.Kind.the-variants as K
 use Rattle.kinds.specs.Fields.{Field, Setting, fieldIn, valueIn, start}
 use Rattle.kinds.specs.Layout.{Body, fixed, texts, Row, parts, valuesIn, rightBody}
 use Rattle.records.specs.Settings.{with}

@@ -2,12 +2,11 @@
 use Prim.Native.Nat.{ℕ, _≤_}
 use mathlib.Core.Path.{_≡_, refl, sym, ap, _∙_}
 use mathlib.Core.Bool.{true, false}
-use mathlib.Core.Logic.{_≢_}
 use mathlib.Core.List.{List}
-use lib.ListN.{length, getD}
+use lib.ListN.{length}
 use lib.Dec.{ltb}
 use borrow.Author.Tests.{ltb-false, not-false}
-use Rattle.laws.proofs.Pick.{never, true-false, passed}
+use Rattle.laws.proofs.Pick.{true-false, passed}
 use Rattle.slots.specs.Slots.{Slot, fits}
 use Rattle.slots.proofs.Slots.{fits-those}
 use Rattle.utf8.specs.Utf8.{Valid, empty, firstBad}
@@ -15,16 +14,14 @@ use Rattle.utf8.proofs.Valid.{good-valid}
 use Rattle.utf8.specs.declared.Utf8.{Utf8}
 use Rattle.utf8.specs.declared.Utf8.the-variants.{Good, BadAt}
 use Rattle.text.specs.Octets.{needed}
-use Rattle.kinds.specs.declared.refusal.Refusal.{Refusal}
-use Rattle.kinds.specs.Choices.{noPort, noDirection}
-use Rattle.kinds.specs.Fields.{Field, Setting, decided, same, fieldIn, valueIn, textIn}
+use Rattle.kinds.specs.Fields.{Field, Setting, same, fieldIn, valueIn, textIn}
 use Rattle.kinds.specs.Layout.{Part, Body, fixed, texts, Row, capacityIn, mostIn, slotsOf, parts}
-use Rattle.kinds.proofs.Codes.{no-code-port, no-code-direction}
 use Rattle.records.specs.declared.answers.Answer.the-variants as A
 use Rattle.records.specs.Settings.{with, tooLarge}
+use Rattle.records.proofs.With.{parts-with, text-with, port-kept, direction-kept}
+use Rattle.records.proofs.Records.{refused-done}
 use Rattle.standard.specs.Reading.{isBad}
 use Rattle.standard.specs.Words.{missing, neededBy, answerTo}
-use Rattle.promises.proofs.With.{parts-with, text-with}
 use Rattle.promises.specs.Good.{textFor, packetsFor, GoodIn}
 
 -- ---- what an accepted setting tells
@@ -33,9 +30,6 @@ pub record Accepted (b : Body) (t : List (Slot Part)) (room : ℕ) (s : Setting)
   pub valid : Valid (textIn s)
   pub most : needed (capacityIn b) (length (textIn s)) ≤ 64
   pub inside : needed (capacityIn b) (length (textIn s)) ≤ room
-
-pub refused-done : {r : Refusal} → A.Refused r ≡ A.Done → ⊥
-refused-done e = never (cc)
 
 not-bad : (u : Utf8) → isBad u ≡ false → u ≡ Good
 not-bad Good e = refl
@@ -50,31 +44,6 @@ accepted r room s e =
     let d = passed (ltb 64 (neededBy r s)) _ _ A.Done refused-done (c .1) in
     let q = passed (ltb room (neededBy r s)) _ _ A.Done refused-done (d .1) in
     record { numbers = not-false _ (b .0); valid = good-valid _ (not-bad _ (c .0)); most = ltb-false _ _ (d .0); inside = ltb-false _ _ (q .0) }
-
--- ---- a named choice is never the barred code
-port-kept : (s : Setting) (v : Field → List ℕ) → getD (v Field.midi1-port) 0 0 ≢ noPort → getD (with (fieldIn s) (valueIn s) v Field.midi1-port) 0 0 ≢ noPort
-unfolding same decided
-port-kept (Setting.flag f b) v h = h
-port-kept (Setting.number n x) v h = h
-port-kept (Setting.pair p x) v h = h
-port-kept (Setting.ui-hint x) v h = h
-port-kept (Setting.midi1-port p) v h = no-code-port p
-port-kept (Setting.direction d) v h = h
-port-kept (Setting.device-manufacturer a b c) v h = h
-port-kept (Setting.software-version a b c d) v h = h
-port-kept (Setting.text t x) v h = h
-
-direction-kept : (s : Setting) (v : Field → List ℕ) → getD (v Field.direction) 0 0 ≢ noDirection → getD (with (fieldIn s) (valueIn s) v Field.direction) 0 0 ≢ noDirection
-unfolding same decided
-direction-kept (Setting.flag f b) v h = h
-direction-kept (Setting.number n x) v h = h
-direction-kept (Setting.pair p x) v h = h
-direction-kept (Setting.ui-hint x) v h = h
-direction-kept (Setting.midi1-port p) v h = h
-direction-kept (Setting.direction d) v h = no-code-direction d
-direction-kept (Setting.device-manufacturer a b c) v h = h
-direction-kept (Setting.software-version a b c d) v h = h
-direction-kept (Setting.text t x) v h = h
 
 -- GOOD VALUES stay good, whatever is accepted
 pub good-with : (b : Body) (t : List (Slot Part)) (room : ℕ) (v : Field → List ℕ) (s : Setting) → GoodIn b t room v → Accepted b t room s → GoodIn b t room (with (fieldIn s) (valueIn s) v)

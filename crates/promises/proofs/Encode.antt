@@ -20,13 +20,13 @@ use Rattle.records.specs.declared.answers.Answer.the-variants as A
 use Rattle.records.specs.declared.answers.Read.the-variants as R
 use Rattle.records.specs.declared.answers.Walked.the-variants as W
 use Rattle.records.specs.Records.{kindIn, packetsIn}
+use Rattle.records.proofs.Records.{record-kind, record-packets}
 use Rattle.standard.specs.Heads.{packetsOf}
 use Rattle.standard.specs.Reading.{readOf, textAt}
 use Rattle.standard.specs.Formed.{Formed}
 use Rattle.standard.specs.Walk.{part, walkOf}
 use Rattle.standard.specs.Words.{left, fresh, encode, answerTo, afterAnswer, setMessage, setOn}
 use Rattle.standard.specs.Lists.{isDone}
-use Rattle.standard.proofs.Fields.{record-kind, record-packets}
 use Rattle.standard.proofs.Formed.{formed-read}
 use Rattle.promises.specs.Good.{textFor, packetsFor, Good}
 use Rattle.promises.specs.Values.{packetsNeeded, recordFor, textGiven, wordsFor, changed}

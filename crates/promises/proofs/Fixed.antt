@@ -15,11 +15,11 @@ use Rattle.text.proofs.Written.{length-blank, blank-first}
 use Rattle.kinds.specs.Fields.{Field, Setting, fieldIn, valueIn, same}
 use Rattle.kinds.specs.Layout.{Part, fixed, Row, slotsOf, parts, headSlot}
 use Rattle.records.specs.Settings.{with}
+use Rattle.records.proofs.With.{parts-with}
 use Rattle.standard.specs.Heads.{headWord, headAt}
 use Rattle.standard.specs.Words.{encodeIn, actIn}
 use Rattle.promises.specs.Good.{packetsFor}
 use Rattle.promises.proofs.Laid.{headBits, Laid}
-use Rattle.promises.proofs.With.{parts-with}
 
 module _ (r : Row) (ws : List ℕ) (v : Field → List ℕ) where
   abbrev base : List ℕ

@@ -16,9 +16,9 @@ use Rattle.kinds.specs.Fields.{Field}
 use Rattle.kinds.specs.Layout.{Body, Row, layout, capacityIn, parts}
 use Rattle.kinds.proofs.Rows.{status-small, row-low, capacity-16}
 use Rattle.records.specs.Records.{kindIn, packetsIn, recordOf}
+use Rattle.records.proofs.Records.{record-kind, record-packets}
 use Rattle.standard.specs.Heads.{typeOf, formatOf, statusOf, streamType, headWord, packetFrom, headAt}
 use Rattle.standard.specs.Formed.{Formed}
-use Rattle.standard.proofs.Fields.{record-kind, record-packets}
 use Rattle.promises.specs.Good.{textFor, packetsFor, Good}
 use Rattle.promises.proofs.Values.{values-held}
 use Rattle.promises.proofs.Front.{Starts, starts-formed}

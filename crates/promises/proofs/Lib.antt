@@ -1,7 +1,6 @@
 pub mod Values
 pub mod Front
 pub mod Laid
-pub mod With
 pub mod Changed
 pub mod Fixed
 pub mod OneWord

@@ -30,8 +30,8 @@ use Rattle.promises.proofs.TextHead.{lowText, first-splits, head-small,
 use Rattle.text.proofs.Rewritten.{written-over, each-first}
 use Rattle.kinds.proofs.Rows.{TextRow}
 use Rattle.kinds.proofs.Fields.{same-true, same-refl, same-swap, value-text}
+use Rattle.records.proofs.With.{parts-with, parts-text}
 use Rattle.promises.proofs.Laid.{headBits, Laid}
-use Rattle.promises.proofs.With.{parts-with, parts-text}
 use Rattle.promises.proofs.Changed.{Accepted, good-with}
 
 module _ (r : Row) (x : Text) (from : ℕ) (k : TextRow r from) (ws : List ℕ) where

@@ -5,7 +5,7 @@ use mathlib.Core.Bool.{Bool, true, false, not}
 use mathlib.Core.Logic.{_≢_}
 use mathlib.Core.List.{List}
 use native.Mathlib.Omega.{arith}
-use lib.ListN.{length, getD, take}
+use lib.ListN.{length, take}
 use borrow.Author.Tests.{eqb-false, ne-eqb, not-false}
 use Rattle.laws.specs.Pick.{pick}
 use Rattle.laws.proofs.Pick.{true-false, past}
@@ -13,16 +13,14 @@ use Rattle.slots.specs.Slots.{fits, reads}
 use Rattle.utf8.specs.Utf8.{Valid, empty}
 use Rattle.text.specs.Octets.{needed}
 use Rattle.kinds.specs.declared.refusal.Refusal.the-variants.{NumberTooLarge, NoSuchField, NoRoom}
-use Rattle.kinds.specs.Choices.{noPort, noDirection}
-use Rattle.kinds.specs.Fields.{Field, same, decided, start}
+use Rattle.kinds.specs.Fields.{Field, same}
 use Rattle.kinds.specs.Layout.{Body, fixed, texts, layout, mostIn, parts, held, valuesIn}
-use Rattle.kinds.proofs.Codes.{no-code-port, no-code-direction}
 use Rattle.records.specs.declared.message.Message.{Message}
 use Rattle.records.specs.declared.message.Message.the-variants as M
 use Rattle.records.specs.declared.answers.Answer.the-variants as A
 use Rattle.records.specs.declared.answers.Read.the-variants as R
-use Rattle.records.specs.Records.{kindIn, packetsIn, recordOf, fieldsIn, lookup, valuesOf}
-use Rattle.records.proofs.Records.{record-back}
+use Rattle.records.specs.Records.{kindIn, packetsIn, recordOf, valuesOf}
+use Rattle.records.proofs.Records.{record-back, refused-done, port-named, direction-named}
 use Rattle.standard.specs.Heads.{packetsOf}
 use Rattle.standard.specs.Reading.{valuesAt, readOf}
 use Rattle.standard.specs.Words.{Left, left, unchanged, noPacket, hasText, encode, writeOn}
@@ -30,29 +28,7 @@ use Rattle.standard.proofs.Formed.{read-formed}
 use Rattle.promises.specs.Good.{textFor, packetsFor, Good}
 use Rattle.promises.specs.Values.{packetsNeeded, recordFor}
 use Rattle.slots.proofs.Tables.{reads-fits, gets-alike}
-use Rattle.promises.proofs.Changed.{refused-done}
 use Rattle.promises.proofs.Encode.{encode-holds, encode-read}
-
--- ---- the values of a record of a fixed kind
-port-named : (m : Message) → getD (valuesOf m Field.midi1-port) 0 0 ≢ noPort
-unfolding fieldsIn lookup same decided start
-port-named (M.EndpointDiscovery e) = λ q. omega arith
-port-named (M.EndpointInfo e) = λ q. omega arith
-port-named (M.DeviceIdentity e) = λ q. omega arith
-port-named (M.EndpointName n) = λ q. omega arith
-port-named (M.ProductInstanceId n) = λ q. omega arith
-port-named (M.FunctionBlockInfo e) = no-code-port (e .«midi1_port»)
-port-named (M.FunctionBlockName b n) = λ q. omega arith
-
-direction-named : (m : Message) → getD (valuesOf m Field.direction) 0 0 ≢ noDirection
-unfolding fieldsIn lookup same decided start
-direction-named (M.EndpointDiscovery e) = λ q. omega arith
-direction-named (M.EndpointInfo e) = λ q. omega arith
-direction-named (M.DeviceIdentity e) = λ q. omega arith
-direction-named (M.EndpointName n) = λ q. omega arith
-direction-named (M.ProductInstanceId n) = λ q. omega arith
-direction-named (M.FunctionBlockInfo e) = no-code-direction (e .direction)
-direction-named (M.FunctionBlockName b n) = λ q. omega arith
 
 -- one packet, and no text
 one-packet : (m : Message) → hasText (layout (kindIn m) .body) ≡ false → packetsIn m ≡ 1

@@ -3,3 +3,5 @@ pub mod Settings
 pub mod Others
 pub mod Promises
 pub mod Numbers
+pub mod With
+pub mod Fitting

@@ -25,7 +25,7 @@ use Rattle.records.specs.declared.answers.Answer.the-variants as A
 use Rattle.records.specs.declared.answers.Edited.{Edited}
 use Rattle.records.specs.Records.{Valued, kindIn, packetsIn, recordOf, fieldsIn, lookup, valuesOf, firstPart, inOrder}
 use Rattle.records.specs.Settings.{with, lacks, tooLarge, edited, setRecord, setEdited, followed}
-use Rattle.records.proofs.Records.{record-back}
+use Rattle.records.proofs.Records.{record-back, record-kind}
 use Rattle.records.proofs.Settings.{lacking, too-large, made, no-text}
 
 -- ---- the three outcomes
@@ -118,16 +118,6 @@ rows-in K.ProductInstanceId = refl
 rows-in K.FunctionBlockInfo = refl
 rows-in K.FunctionBlockName = refl
 
-new-kind : (m : Message) (v : Field → List ℕ) → kindIn (recordOf (kindIn m) (packetsIn m) v) ≡ kindIn m
-unfolding recordOf
-new-kind (M.EndpointDiscovery e) v = refl
-new-kind (M.EndpointInfo e) v = refl
-new-kind (M.DeviceIdentity e) v = refl
-new-kind (M.EndpointName n) v = refl
-new-kind (M.ProductInstanceId n) v = refl
-new-kind (M.FunctionBlockInfo e) v = refl
-new-kind (M.FunctionBlockName b n) v = refl
-
 new-packets : (m : Message) (v : Field → List ℕ) → packetsIn (recordOf (kindIn m) (packetsIn m) v) ≡ packetsIn m
 unfolding recordOf
 new-packets (M.EndpointDiscovery e) v = refl
@@ -156,7 +146,7 @@ module _ (s : Setting) (m : Message) where
   -- the kind and the packets stay
   pub set-kind : kindIn (setRecord s m .message) ≡ kindIn m
   unfolding newRecord
-  set-kind = outcomes s m (λ q. rw q) (λ q. rw q) (λ l q. rw q (new-kind m _))
+  set-kind = outcomes s m (λ q. rw q) (λ q. rw q) (λ l q. rw q (record-kind (kindIn m) (packetsIn m) _))
 
   pub set-packets : packetsIn (setRecord s m .message) ≡ packetsIn m
   unfolding newRecord

@@ -12,7 +12,6 @@ use Rattle.laws.proofs.Pick.{here, past, below, both-left, both-right, both-alo
 use Rattle.slots.specs.Slots.{those, fits}
 use Rattle.kinds.specs.declared.choices.UiHint.{UiHint}
 use Rattle.kinds.specs.declared.choices.Midi1Port.{Midi1Port}
-use Rattle.kinds.specs.declared.choices.Midi1Port.the-variants as P
 use Rattle.kinds.specs.declared.choices.Direction.{Direction}
 use Rattle.kinds.specs.declared.choices.Direction.the-variants as D
 use Rattle.kinds.specs.declared.refusal.Refusal.the-variants.{NumberTooLarge, NoSuchField}

@@ -1,10 +1,9 @@
 -- The words' slots and the record's values give each other. Closed by computing the table at each kind, and the laws of the codes.
-use Prim.Native.Nat.{ℕ, _≤_}
+use Prim.Native.Nat.{ℕ}
 use mathlib.Core.Path.{_≡_, refl, sym, _∙_}
 use mathlib.Core.Bool.{true, false}
 use mathlib.Core.Logic.{_≢_}
 use mathlib.Core.List.{List, [], _∷_}
-use native.Mathlib.Omega.{arith}
 use lib.Dec.{eqb}
 use borrow.Author.Tests.{ne-eqb}
 use Rattle.laws.specs.Pick.{differ}
@@ -18,7 +17,7 @@ use Rattle.records.specs.declared.message.Message.{Message}
 use Rattle.records.specs.declared.message.Message.the-variants as M
 use Rattle.kinds.specs.Choices.{noPort, noDirection}
 use Rattle.kinds.specs.Fields.{Field, same, decided, start, partOf, joined}
-use Rattle.kinds.specs.Layout.{Part, layout, mostOf, parts, held, valuesIn}
+use Rattle.kinds.specs.Layout.{Part, layout, parts, held, valuesIn}
 use Rattle.records.specs.Records.{kindIn, packetsIn, recordOf, fieldsIn, lookup, valuesOf}
 use Rattle.kinds.proofs.Codes.{bit-flag, hint-back, port-back, direction-back, flag-bit, code-hint, code-port, code-direction, no-code-port, no-code-direction, pair-low, pair-high, pair-back}
 use Rattle.standard.specs.Heads.{packetFrom}
@@ -66,27 +65,6 @@ record-holds K.EndpointName n ws p d = tt
 record-holds K.ProductInstanceId n ws p d = tt
 record-holds K.FunctionBlockInfo n ws p d = (flag-bit _ (get-small _ ws), (refl, (code-hint _ (get-small _ ws), (code-port _ (get-small _ ws) p, (code-direction _ (get-small _ ws) d, (refl, (refl, (refl, (refl, tt)))))))))
 record-holds K.FunctionBlockName n ws p d = (refl, tt)
-
--- a record is of the kind and the packets that it was made of
-pub record-kind : (k : Kind) (n : ℕ) (v : Field → List ℕ) → kindIn (recordOf k n v) ≡ k
-unfolding recordOf
-record-kind K.EndpointDiscovery n v = refl
-record-kind K.EndpointInfo n v = refl
-record-kind K.DeviceIdentity n v = refl
-record-kind K.EndpointName n v = refl
-record-kind K.ProductInstanceId n v = refl
-record-kind K.FunctionBlockInfo n v = refl
-record-kind K.FunctionBlockName n v = refl
-
-pub record-packets : (k : Kind) (n : ℕ) (v : Field → List ℕ) → 1 ≤ n → n ≤ mostOf k → packetsIn (recordOf k n v) ≡ n
-unfolding recordOf layout
-record-packets K.EndpointDiscovery n v a b = omega arith
-record-packets K.EndpointInfo n v a b = omega arith
-record-packets K.DeviceIdentity n v a b = omega arith
-record-packets K.EndpointName n v a b = refl
-record-packets K.ProductInstanceId n v a b = refl
-record-packets K.FunctionBlockInfo n v a b = omega arith
-record-packets K.FunctionBlockName n v a b = refl
 
 -- ---- one table over two packets
 -- packets that hold the same break no rule

@@ -27,11 +27,12 @@ use Rattle.kinds.specs.Fields.{Field}
 use Rattle.kinds.specs.Layout.{layout, capacityOf, mostOf, kinds, kindOf, parts}
 use Rattle.records.specs.Records.{kindIn, packetsIn, valuesOf}
 use Rattle.kinds.proofs.Rows.{status-kind, among-status, most-64}
+use Rattle.records.proofs.Records.{record-kind, record-packets, refused-message}
 use Rattle.standard.specs.Heads.{statusOf, packetsOf, packetFrom, headAt}
 use Rattle.standard.specs.Reading.{otherStatus, otherFormat, otherField, codeAt, textAt, messageAt, valuesAt, isBad, readBody, readKind, readKnown, readOf}
 use Rattle.standard.specs.Formed.{Formed}
-use Rattle.standard.proofs.Fields.{holds-record, holds-port, holds-direction, record-holds, record-kind, record-packets, same-fields, fields-same}
-use Rattle.standard.proofs.Rules.{refused-message, Keeps, ruled-message, ruled-kept}
+use Rattle.standard.proofs.Fields.{holds-record, holds-port, holds-direction, record-holds, same-fields, fields-same}
+use Rattle.standard.proofs.Rules.{Keeps, ruled-message, ruled-kept}
 
 -- ---- text
 not-bad : (u : Utf8) → isBad u ≡ false → u ≡ Good

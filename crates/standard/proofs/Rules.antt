@@ -5,7 +5,7 @@ use mathlib.Core.Bool.{Bool, false}
 use lib.Dec.{ltb}
 use borrow.Author.Tests.{lt-ltb, le-ltb}
 use Rattle.laws.specs.First.{first}
-use Rattle.laws.proofs.Pick.{never, here, past, passed}
+use Rattle.laws.proofs.Pick.{here, past, passed}
 use Rattle.laws.proofs.First.{first-none, none-first}
 use Rattle.counts.specs.Counts.{packet}
 use Rattle.counts.specs.declared.PacketNumber.{PacketNumber}
@@ -13,10 +13,8 @@ use Rattle.kinds.specs.declared.refusal.Refusal.{Refusal}
 use Rattle.records.specs.declared.message.Message.{Message}
 use Rattle.records.specs.declared.answers.Read.{Read}
 use Rattle.records.specs.declared.answers.Read.the-variants as R
+use Rattle.records.proofs.Records.{refused-message}
 use Rattle.standard.specs.Reading.{ruled}
-
-pub refused-message : {r : Refusal} {m : Message} → R.Refused r ≡ R.Message m → ⊥
-refused-message e = never (cc)
 
 -- no packet of n breaks the rule
 abbrev pub Keeps : (ℕ → Bool) → ℕ → Type 0

@@ -8,17 +8,16 @@ use borrow.Author.Tests.{lt-ltb, le-ltb}
 use Rattle.laws.specs.Pick.{both}
 use Rattle.laws.proofs.Pick.{both-true, both-false, both-alone}
 use Rattle.slots.specs.Slots.{fits}
-use Rattle.kinds.specs.declared.choices.UiHint.the-variants as H
 use Rattle.kinds.specs.declared.choices.Midi1Port.the-variants as P
 use Rattle.kinds.specs.declared.choices.Direction.the-variants as D
 use Rattle.kinds.specs.Fields.{same, decided, partOf}
 use Rattle.kinds.specs.Layout.{discoveryFields, infoFields, blockFields, parts}
 use Rattle.kinds.proofs.Codes.{bit-fits, hint-fits, port-fits, direction-fits}
 use Rattle.records.specs.declared.endpoint_discovery.EndpointDiscovery.{EndpointDiscovery}
 use Rattle.records.specs.declared.endpoint_info.EndpointInfo.{EndpointInfo}
 use Rattle.records.specs.declared.function_block_info.FunctionBlockInfo.{FunctionBlockInfo}
 use Rattle.records.specs.declared.message.Message.the-variants as M
 use Rattle.records.specs.Records.{fieldsIn, lookup, valuesOf}
 
 -- no number of a discovery
 pub discovery-fits : (e : EndpointDiscovery) → e .«ump_version_major» < 256 → e .«ump_version_minor» < 256 → fits discoveryFields (parts (valuesOf (M.EndpointDiscovery e))) ≡ true
