@@ -11,26 +11,16 @@ use Rattle.records.specs.declared.message.Message.{Message}
 use Rattle.records.specs.declared.answers.Walked.{Walked}
 use Rattle.records.specs.declared.answers.Walked.the-variants as W
 use Rattle.records.specs.Records.{packetsIn}
-use Rattle.standard.specs.Walk.{part, walkOf, Onward}
+use Rattle.standard.specs.Walk.{part, walkOf}
+use Rattle.standard.proofs.Walks.{part-length}
 use Rattle.walking.specs.Stands.{Stands, textThere}
 use Rattle.walking.specs.Visits.{nextOf, visits}
-use Rattle.walking.proofs.Next.{walk-onward}
-use Rattle.walking.proofs.Stands.{part-length, walk-formed}
+use Rattle.walking.proofs.Stands.{walk-formed}
+use Rattle.walking.proofs.Visits.{next-between}
 use Rattle.lines.specs.Page.{Wrote}
 use Rattle.lines.proofs.Page.{Left, left-all, left-turn, left-none}
 use Rattle.listing.specs.Lines.{lineOf}
 use Rattle.listing.specs.Listing.{visitLines, linesOf}
-
--- ---- the next position
-onward-next : (a : Walked) (pos end : ℕ) → Onward pos end a → (pos < nextOf a pos) × (nextOf a pos ≤ end)
-onward-next W.End pos end h = absurd h
-onward-next (W.Other t size next) pos end h = h
-onward-next (W.Message m next) pos end h = h
-onward-next (W.Refused r next) pos end h = h
-
--- it is larger than the one given, and at most the length
-pub next-between : (ws : List ℕ) (pos j : ℕ) (a : Walked) → pos < length ws → a ≡ walkOf ws pos → j ≡ nextOf a pos → (pos < j) × (j ≤ length ws)
-next-between ws pos j a h e q = rw (q, e) (onward-next (walkOf ws pos) pos (length ws) (walk-onward ws pos h))
 
 -- ---- a message's words are those from its position to the next
 module _ (ws : List ℕ) (pos : ℕ) (a : Walked) (m : Message) (next : WordNumber) (w : a ≡ walkOf ws pos) (e : a ≡ W.Message m next) where

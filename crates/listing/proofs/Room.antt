@@ -28,9 +28,11 @@ use Rattle.standard.specs.declared.Framed.the-variants.{Whole, Short, Broken}
 use Rattle.standard.specs.Heads.{typeOf, streamType}
 use Rattle.standard.specs.Reading.{readOf}
 use Rattle.standard.specs.Walk.{sizeOf, part, walkedOf, frameOf, framedOf, otherOf, walkOf, Onward}
+use Rattle.standard.proofs.Next.{Room, frame-room, walk-onward, size-some}
+use Rattle.standard.proofs.Near.{Near, read-near, Close, frame-close}
 use Rattle.walking.specs.Visits.{nextOf, visits}
-use Rattle.walking.proofs.Next.{Room, frame-room, walk-onward}
 use Rattle.walking.proofs.Stands.{walk-formed}
+use Rattle.walking.proofs.Visits.{next-between}
 use Rattle.lines.specs.Ascii.{ascii}
 use Rattle.lines.specs.Page.{Wrote}
 use Rattle.lines.specs.Numbers.{decimal}
@@ -38,8 +40,6 @@ use Rattle.lines.proofs.Room.{decimal-length, within, first}
 use Rattle.listing.specs.Lines.{messageShown, refusalShown, lineOf, endLine, tooLong}
 use Rattle.listing.specs.Listing.{wordAt, wordsOf, visitLines, linesOf, listingOf}
 use Rattle.listing.specs.Listed.{Listed, roomy}
-use Rattle.listing.proofs.Lines.{next-between}
-use Rattle.listing.proofs.Near.{Near, read-near, Close, frame-close}
 use Rattle.listing.proofs.Lengths.{message-length}
 
 -- ---- the parts of a line
@@ -79,16 +79,6 @@ size-length t =
     let d2 = decimal-length 0 2 (lit≤ tt) in
     let d4 = decimal-length 0 4 (lit≤ tt) in
     one-of t 3 1 _ d1 (one-of t 5 2 _ d2 (one-of t 6 4 _ d4 (one-of t 8 1 _ d1 (one-of t 11 2 _ d2 (one-of t 13 3 4 (decimal-length 0 3 (lit≤ tt)) d4)))))
-
-some-of : (t b x y : ℕ) → 1 ≤ x → 1 ≤ y → 1 ≤ pick (ltb t b) x y
-some-of t b x y h g = ⊎-elim (λ l. rw (lt-ltb t b l) h) (λ l. rw (le-ltb t b l) g) (below t b)
-
-size-some : (t : ℕ) → 1 ≤ sizeOf t
-unfolding sizeOf
-size-some t =
-    let s : 1 ≤ 2 = lit≤ tt in
-    let f : 1 ≤ 4 = lit≤ tt in
-    some-of t 3 1 _ (lit≤ tt) (some-of t 5 2 _ s (some-of t 6 4 _ f (some-of t 8 1 _ (lit≤ tt) (some-of t 11 2 _ s (some-of t 13 3 4 (lit≤ tt) f)))))
 
 -- ---- a line at a position of at most four digits
 line-length : (d said : List ℕ) (k : ℕ) → length d ≤ 4 → length said + 5 ≤ k → length (d ++ said ++ ascii "\n") ≤ k

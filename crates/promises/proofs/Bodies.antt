@@ -13,7 +13,7 @@ use Rattle.standard.specs.Heads.{headWord, packetsOf}
 use Rattle.standard.specs.Words.{encodeIn, actIn}
 use Rattle.promises.specs.Good.{packetsFor, GoodIn}
 use Rattle.kinds.proofs.Rows.{RowRight, text-row}
-use Rattle.promises.proofs.Changed.{Accepted}
+use Rattle.standard.proofs.Accepted.{Accepted}
 use Rattle.promises.proofs.Laid.{Laid}
 use Rattle.promises.proofs.Fixed.{fixed-length, fixed-acted, fixed-laid}
 use Rattle.promises.proofs.Texts.{text-length, text-laid, text-acted}

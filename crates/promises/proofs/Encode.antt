@@ -31,9 +31,10 @@ use Rattle.standard.proofs.Formed.{formed-read}
 use Rattle.promises.specs.Good.{textFor, packetsFor, Good}
 use Rattle.promises.specs.Values.{packetsNeeded, recordFor, textGiven, wordsFor, changed}
 use Rattle.standard.proofs.Walks.{formed-walk}
-use Rattle.promises.proofs.Values.{values-hold}
+use Rattle.standard.proofs.Fields.{values-hold}
+use Rattle.standard.proofs.Accepted.{accepted}
 use Rattle.promises.proofs.Laid.{Laid, laid-formed}
-use Rattle.promises.proofs.Changed.{accepted, good-with}
+use Rattle.promises.proofs.Changed.{good-with}
 use Rattle.promises.proofs.Bodies.{in-length, in-fresh, in-laid, in-acted}
 
 module _ (k : Kind) (ws : List ℕ) (l : 4 ≤ length ws) where

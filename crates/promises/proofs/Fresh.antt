@@ -18,8 +18,8 @@ use Rattle.kinds.specs.Fields.{Text, start}
 use Rattle.kinds.specs.Layout.{Part, texts, Row, parts}
 use Rattle.standard.specs.Heads.{headWord}
 use Rattle.standard.specs.Words.{putWord, headOf, encodeIn}
-use Rattle.promises.proofs.OneWord.{put-first}
-use Rattle.promises.proofs.TextHead.{empty-first, head-first}
+use Rattle.standard.proofs.OneWord.{put-first}
+use Rattle.standard.proofs.TextHead.{empty-first, head-first}
 use Rattle.text.proofs.Rewritten.{head-zero}
 use Rattle.kinds.proofs.Rows.{TextRow}
 

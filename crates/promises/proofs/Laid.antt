@@ -19,9 +19,9 @@ use Rattle.records.specs.Records.{kindIn, packetsIn, recordOf}
 use Rattle.records.proofs.Records.{record-kind, record-packets}
 use Rattle.standard.specs.Heads.{typeOf, formatOf, statusOf, streamType, headWord, packetFrom, headAt}
 use Rattle.standard.specs.Formed.{Formed}
+use Rattle.standard.proofs.Fields.{values-held}
 use Rattle.promises.specs.Good.{textFor, packetsFor, Good}
-use Rattle.promises.proofs.Values.{values-held}
-use Rattle.promises.proofs.Front.{Starts, starts-formed}
+use Rattle.standard.proofs.Front.{Starts, starts-formed}
 
 -- the sixteen high bits of a head
 abbrev pub headBits : ℕ → ℕ
@@ -64,7 +64,7 @@ module _ (k : Kind) (room : ℕ) (v : Field → List ℕ) (ws : List ℕ) (g : G
         type = λ p h. head-at p (below p h) .0;
         format = λ p h. rw packets (head-at p (below p h) .1);
         status = λ p h. rw kind (head-at p (below p h) .2);
-        fields = λ p h. rw kind (values-held count v (packetFrom ws p) k (l .fields p (below p h)) (g .port) (g .direction));
+        fields = λ p h. rw kind (values-held v (packetFrom ws p) k count (l .fields p (below p h)) (g .port) (g .direction));
         text = rw (packets, kind) (l .text);
         valid = nonzero-valid (g .valid);
       }

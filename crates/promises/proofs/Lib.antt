@@ -1,10 +1,6 @@
-pub mod Values
-pub mod Front
 pub mod Laid
 pub mod Changed
 pub mod Fixed
-pub mod OneWord
-pub mod TextHead
 pub mod Texts
 pub mod Fresh
 pub mod Bodies

@@ -25,14 +25,15 @@ use Rattle.standard.specs.Heads.{headWord, packetsOf, packetFrom, headAt}
 use Rattle.standard.specs.Words.{putWord, headOf, textWritten, encodeIn, actIn}
 use Rattle.promises.specs.Good.{GoodIn}
 use Rattle.slots.proofs.Tables.{reads-words, put-alike}
-use Rattle.promises.proofs.OneWord.{put-those-word}
-use Rattle.promises.proofs.TextHead.{lowText, first-splits, head-small, head-first}
+use Rattle.standard.proofs.OneWord.{put-those-word}
+use Rattle.standard.proofs.TextHead.{lowText, first-splits, head-small, head-first}
 use Rattle.text.proofs.Rewritten.{written-over, each-first}
 use Rattle.kinds.proofs.Rows.{TextRow}
 use Rattle.kinds.proofs.Fields.{same-true, same-refl, same-swap, value-text}
 use Rattle.records.proofs.With.{parts-with, parts-text}
+use Rattle.standard.proofs.Accepted.{Accepted}
 use Rattle.promises.proofs.Laid.{headBits, Laid}
-use Rattle.promises.proofs.Changed.{Accepted, good-with}
+use Rattle.promises.proofs.Changed.{good-with}
 
 module _ (r : Row) (x : Text) (from : ℕ) (k : TextRow r from) (ws : List ℕ) where
   abbrev cap : ℕ

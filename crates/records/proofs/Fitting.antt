@@ -8,8 +8,6 @@ use borrow.Author.Tests.{lt-ltb, le-ltb}
 use Rattle.laws.specs.Pick.{both}
 use Rattle.laws.proofs.Pick.{both-true, both-false, both-alone}
 use Rattle.slots.specs.Slots.{fits}
-use Rattle.kinds.specs.declared.choices.Midi1Port.the-variants as P
-use Rattle.kinds.specs.declared.choices.Direction.the-variants as D
 use Rattle.kinds.specs.Fields.{same, decided, partOf}
 use Rattle.kinds.specs.Layout.{discoveryFields, infoFields, blockFields, parts}
 use Rattle.kinds.proofs.Codes.{bit-fits, hint-fits, port-fits, direction-fits}

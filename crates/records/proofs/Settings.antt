@@ -13,7 +13,6 @@ use Rattle.slots.specs.Slots.{those, fits}
 use Rattle.kinds.specs.declared.choices.UiHint.{UiHint}
 use Rattle.kinds.specs.declared.choices.Midi1Port.{Midi1Port}
 use Rattle.kinds.specs.declared.choices.Direction.{Direction}
-use Rattle.kinds.specs.declared.choices.Direction.the-variants as D
 use Rattle.kinds.specs.declared.refusal.Refusal.the-variants.{NumberTooLarge, NoSuchField}
 use Rattle.kinds.specs.Choices.{hintCode, portCode, directionCode}
 use Rattle.kinds.specs.Fields.{Setting, Text, fieldIn, valueIn, bit, same, decided, partOf}

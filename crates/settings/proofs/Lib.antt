@@ -1,4 +1,3 @@
-pub mod Left
-pub mod Room
+pub mod Settled
 pub mod Owned
 pub mod Slots

@@ -3,6 +3,7 @@ use Prim.Native.Nat.{ℕ, _≤_}
 use mathlib.Core.Path.{_≡_, refl, sym, ap, _∙_}
 use mathlib.Core.Bool.{Bool, true, false, not}
 use mathlib.Core.List.{List}
+use native.Mathlib.Omega.{arith}
 use Rattle.laws.specs.Pick.{pick, differ}
 use Rattle.laws.proofs.Pick.{never, split, eq-differ, differ-false}
 use Rattle.counts.specs.Counts.{packet}
@@ -20,9 +21,9 @@ use Rattle.records.specs.Records.{kindIn, packetsIn}
 use Rattle.standard.specs.Heads.{packetsOf}
 use Rattle.standard.specs.Walk.{walkOf}
 use Rattle.standard.specs.Words.{Left, left, unchanged, missing, answerTo, afterAnswer, setMessage, setWalked, setOn}
+use Rattle.walking.proofs.Stands.{walk-formed}
 use Rattle.settings.specs.declared.target.Target.the-variants as T
 use Rattle.settings.specs.Target.{ownIn, targetOf}
-use Rattle.settings.proofs.Room.{message-room}
 
 -- two tests say the same
 abbrev pub alike : Bool → Bool → Bool
@@ -115,9 +116,9 @@ module _ (k : Kind) (s : Setting) (own : ownedBy k s ≡ true) (ws : List ℕ) w
       go (W.Refused a next) w q = no q
       go (W.Message m next) w q =
           let o = message-own m q in
-          let r = message-room ws w in
+          let f = walk-formed ws 0 m next w in
           record {
-            some = rw (o .1) at (r .some);
-            most = rw (o .1) at (r .most);
+            some = rw (o .1) at (f .formed .some);
+            most = omega (arith, f .room, o .1);
             set = ap (λ (x : Walked). setWalked x s ws) w ∙ ap (λ (i : Kind). setOwn i (packetsIn m) s ws) (o .0) ∙ ap (λ (i : ℕ). setOwn k i s ws) (o .1);
           }

@@ -29,8 +29,8 @@ use Rattle.settings.specs.declared.target.Target.{Target}
 use Rattle.settings.specs.declared.target.Target.the-variants as T
 use Rattle.settings.specs.Target.{targetOf, settled}
 use Rattle.settings.specs.Fixed.{fitted, slotOn, septetsOn}
-use Rattle.settings.proofs.Left.{settled-refused, settled-own}
 use Rattle.settings.proofs.Owned.{ownedBy, own-has, Own, set-refused, set-own}
+use Rattle.settings.proofs.Settled.{settled-refused, settled-own}
 
 -- ---- how the code reaches each case
 module _ (status word at span v : ℕ) (ws : List ℕ) where

@@ -8,11 +8,9 @@ use lib.ListN.{length}
 use lib.Dec.{ltb, eqb}
 use borrow.Author.Tests.{le-ltb, ltb-false, eqb-false}
 use Rattle.laws.specs.Pick.{differ}
-use Rattle.laws.proofs.Pick.{true-false, past, passed, eq-differ, differ-false}
+use Rattle.laws.proofs.Pick.{past, passed, eq-differ, differ-false}
 use Rattle.slots.specs.Slots.{reads}
 use Rattle.utf8.specs.Utf8.{firstBad}
-use Rattle.utf8.specs.declared.Utf8.{Utf8}
-use Rattle.utf8.specs.declared.Utf8.the-variants.{Good, BadAt}
 use Rattle.utf8.proofs.Valid.{good-valid, valid-good}
 use Rattle.text.specs.Octets.{due}
 use Rattle.text.specs.Bytes.{textOf}
@@ -32,12 +30,7 @@ use Rattle.standard.specs.Heads.{statusOf, packetsOf, packetFrom, headAt
 use Rattle.standard.specs.Reading.{otherStatus, otherFormat, otherField, codeAt, textAt, messageAt, valuesAt, isBad, readBody, readKind, readKnown, readOf}
 use Rattle.standard.specs.Formed.{Formed}
 use Rattle.standard.proofs.Fields.{holds-record, holds-port, holds-direction, record-holds, same-fields, fields-same}
-use Rattle.standard.proofs.Rules.{Keeps, ruled-message, ruled-kept}
-
--- ---- text
-not-bad : (u : Utf8) → isBad u ≡ false → u ≡ Good
-not-bad Good e = refl
-not-bad (BadAt n) e = true-false e
+use Rattle.standard.proofs.Rules.{Keeps, ruled-message, ruled-kept, not-bad}
 
 -- ---- a well-formed message is read, and as what it is
 module _ (m : Message) (t ws : List ℕ) (f : Formed m t ws) where
@@ -61,7 +54,7 @@ module _ (m : Message) (t ws : List ℕ) (f : Formed m t ws) where
   formed-body =
       past _ (holds-port m ws first-fields)
       (past _ (holds-direction m ws first-fields)
-      (past _ good-text (ap R.Message (sym (holds-record m (packetsOf ws) ws count first-fields)))))
+      (past _ good-text (ap R.Message (sym (holds-record m ws first-fields (packetsOf ws) count)))))
 
   formed-kind : R.Message m ≡ readKind (kindIn m) ws
   unfolding readKind

@@ -5,7 +5,7 @@ use mathlib.Core.Bool.{true, false}
 use mathlib.Core.List.{List}
 use native.Mathlib.Omega.{arith}
 use native.Mathlib.Decide.{decLt}
-use lib.ListN.{length, getD}
+use lib.ListN.{length, getD, length-take, length-drop}
 use lib.Seq.{getD-take, getD-drop}
 use lib.Dec.{ltb, leb, eqb}
 use borrow.Author.Tests.{lt-ltb, le-ltb, lt-leb, ne-eqb}
@@ -24,6 +24,10 @@ use Rattle.standard.specs.Heads.{typeOf, streamType, headAt}
 use Rattle.standard.specs.Formed.{Formed}
 use Rattle.standard.specs.Walk.{stepOf, afterStep, framePacket, frameFrom, frameOf, part, framedOf, walkOf}
 use Rattle.standard.proofs.Formed.{formed-read}
+
+-- ---- the words of n packets at a position
+pub part-length : (ws : List ℕ) (pos n : ℕ) → pos + n * 4 ≤ length ws → length (part ws pos n) ≡ n * 4
+part-length ws pos n h = simp (length-take, length-drop) (omega arith)
 
 -- ---- a packet's first word in the part and in the stream
 pub part-head : (ws : List ℕ) (pos n p : ℕ) → p < n → headAt (part ws pos n) p ≡ getD ws (pos + p * 4) 0

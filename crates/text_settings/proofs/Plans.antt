@@ -23,7 +23,7 @@ use Rattle.standard.specs.Words.{left, unchanged}
 use Rattle.filling.specs.Filling.{putEach, fillText}
 use Rattle.settings.specs.declared.target.Target.the-variants as T
 use Rattle.settings.specs.Target.{targetOf}
-use Rattle.settings.proofs.Left.{settled-refused, settled-own}
+use Rattle.settings.proofs.Settled.{settled-refused, settled-own}
 use Rattle.text_settings.specs.declared.texts.Plan.the-variants as P
 use Rattle.text_settings.specs.Texts.{roomOf, planOf, textOn, eachOn}
 

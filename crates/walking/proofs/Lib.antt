@@ -1,4 +1,3 @@
 pub mod Turns
-pub mod Next
 pub mod Stands
 pub mod Visits

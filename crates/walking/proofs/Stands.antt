@@ -4,7 +4,7 @@ use mathlib.Core.Path.{_≡_, refl, sym, ap, _∙_}
 use mathlib.Core.Bool.{Bool, true, false}
 use mathlib.Core.List.{List}
 use native.Mathlib.Omega.{arith}
-use lib.ListN.{length, getD, length-take, length-drop}
+use lib.ListN.{length, getD}
 use lib.Dec.{ltb, leb}
 use Rattle.laws.specs.Pick.{pick, differ}
 use Rattle.laws.proofs.Pick.{never, passed}
@@ -22,13 +22,9 @@ use Rattle.standard.specs.Heads.{typeOf, streamType}
 use Rattle.standard.specs.Reading.{readOf}
 use Rattle.standard.specs.Walk.{sizeOf, frameOf, walkedOf, part, framedOf, otherOf, walkOf}
 use Rattle.standard.proofs.Formed.{read-formed}
-use Rattle.standard.proofs.Walks.{formed-walk}
+use Rattle.standard.proofs.Walks.{formed-walk, part-length}
+use Rattle.standard.proofs.Next.{whole-room}
 use Rattle.walking.specs.Stands.{Stands, textThere}
-use Rattle.walking.proofs.Next.{whole-room}
-
--- ---- the words of n packets at a position
-pub part-length : (ws : List ℕ) (pos n : ℕ) → pos + n * 4 ≤ length ws → length (part ws pos n) ≡ n * 4
-part-length ws pos n h = simp (length-take, length-drop) (omega arith)
 
 -- ---- a well-formed message that stands there is answered
 pub stands-walk : (m : Message) (t ws : List ℕ) (pos : ℕ) (next : WordNumber) → Stands m t ws pos next → walkOf ws pos ≡ W.Message m next

@@ -13,8 +13,8 @@ use Rattle.laws.proofs.Pick.{below, both-true, both-false}
 use Rattle.records.specs.declared.answers.Walked.{Walked}
 use Rattle.records.specs.declared.answers.Walked.the-variants as W
 use Rattle.standard.specs.Walk.{walkOf, Onward}
+use Rattle.standard.proofs.Next.{walk-onward}
 use Rattle.walking.specs.Visits.{nextOf, Visit, nextIn, visits, visitsOf, Tiles, Answers, covers, covering}
-use Rattle.walking.proofs.Next.{walk-onward}
 
 -- ---- the next position
 onward-next : (a : Walked) (pos end : ℕ) → Onward pos end a → (pos < nextOf a pos) × (nextOf a pos ≤ end)
@@ -23,11 +23,12 @@ onward-next (W.Other t size next) pos end h = h
 onward-next (W.Message m next) pos end h = h
 onward-next (W.Refused r next) pos end h = h
 
+-- it is larger than the one given, and at most the length
+pub next-between : (ws : List ℕ) (pos j : ℕ) (a : Walked) → pos < length ws → a ≡ walkOf ws pos → j ≡ nextOf a pos → (pos < j) × (j ≤ length ws)
+next-between ws pos j a h e q = rw (q, e) (onward-next (walkOf ws pos) pos (length ws) (walk-onward ws pos h))
+
 abbrev nextAt : List ℕ → ℕ → ℕ
 nextAt ws pos = nextOf (walkOf ws pos) pos
-
-next-between : (ws : List ℕ) (pos : ℕ) → pos < length ws → (pos < nextAt ws pos) × (nextAt ws pos ≤ length ws)
-next-between ws pos h = onward-next (walkOf ws pos) pos (length ws) (walk-onward ws pos h)
 
 -- ---- a visit, and the end of them
 module _ (most : ℕ) (ws : List ℕ) (pos : ℕ) where
@@ -47,7 +48,7 @@ tiles (suc most) ws pos h l = go (below pos (length ws)) (tiles most ws (nextAt 
   where
     go : (pos < length ws) ⊎ (length ws ≤ pos) → (nextAt ws pos ≤ length ws → length ws - nextAt ws pos ≤ most → Tiles (nextAt ws pos) (visits most ws (nextAt ws pos)) (length ws)) → Tiles pos (visits (suc most) ws pos) (length ws)
     go (inl b) more =
-        let n = next-between ws pos b in
+        let n = next-between ws pos (nextAt ws pos) (walkOf ws pos) b refl refl in
         rw (visits-more most ws pos b) (refl, n .0, more (n .1) (omega arith))
     go (inr b) more = let e : pos ≡ length ws = omega arith in rw (visits-none (suc most) ws pos b) e
 
@@ -62,7 +63,7 @@ visits-same (suc a) (suc b) ws pos h k = go (below pos (length ws)) (visits-same
   where
     go : (pos < length ws) ⊎ (length ws ≤ pos) → (length ws - nextAt ws pos ≤ a → length ws - nextAt ws pos ≤ b → visits a ws (nextAt ws pos) ≡ visits b ws (nextAt ws pos)) → visits (suc a) ws pos ≡ visits (suc b) ws pos
     go (inl l) more =
-        let n = next-between ws pos l in
+        let n = next-between ws pos (nextAt ws pos) (walkOf ws pos) l refl refl in
         rw (visits-more a ws pos l, visits-more b ws pos l, more (omega arith) (omega arith))
     go (inr l) more = visits-none (suc a) ws pos l ∙ sym (visits-none (suc b) ws pos l)
 
@@ -95,7 +96,7 @@ only [] most ws pos t a h = sym (visits-none most ws pos (omega arith))
 only (v ∷ vs) zero ws pos t a h = absurd (omega (arith, t .0, t .1, tiles-le vs (nextIn v) (length ws) (t .2)))
 only (v ∷ vs) (suc most) ws pos t a h =
     let l : pos < length ws = omega (arith, t .0, t .1, tiles-le vs (nextIn v) (length ws) (t .2)) in
-    let n = next-between ws pos l in
+    let n = next-between ws pos (nextAt ws pos) (walkOf ws pos) l refl refl in
     let told : v .answer ≡ walkOf ws pos = a .0 ∙ ap (walkOf ws) (t .0) in
     let is : v ≡ record { position = pos; answer = walkOf ws pos } = visit-is v pos (walkOf ws pos) (t .0) told in
     let next : nextIn v ≡ nextAt ws pos = ap nextIn is in

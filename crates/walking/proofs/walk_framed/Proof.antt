@@ -1,8 +1,8 @@
 -- A framed message: its packets lie within the words, so they can be lent to reading.
 use native.Mathlib.Omega.{arith}
 use Rattle.standard.specs.Walk.{framedOf}
-use Rattle.walking.proofs.Next.{whole-room}
 use borrow.Author.Needs.{needs}
+use Rattle.standard.proofs.Next.{whole-room}
 use Rattle.walking.proofs.walk_framed.Statement.{statement}
 use Rattle.walking.proofs.walk_framed.Tie as tie
 

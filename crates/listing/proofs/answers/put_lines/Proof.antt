@@ -2,8 +2,9 @@ use Prim.Native.Nat.{_-_}
 use mathlib.Core.Path.{_≡_, refl, _∙_}
 use native.Mathlib.Omega.{arith}
 use lib.ListN.{length}
-use Rattle.listing.proofs.Lines.{next-between, Going, going-all, going-turn, going-none}
+use Rattle.listing.proofs.Lines.{Going, going-all, going-turn, going-none}
 use borrow.Author.Needs.{needs}
+use Rattle.walking.proofs.Visits.{next-between}
 use Rattle.listing.proofs.answers.put_lines.Statement.{statement}
 use Rattle.listing.proofs.answers.put_lines.Tie as tie
 

@@ -2,10 +2,10 @@ use mathlib.Core.Path.{refl}
 use lib.Dec.{lit≤}
 use Rattle.kinds.specs.declared.kind.Kind.the-variants as K
 use Rattle.kinds.specs.Layout.{layout}
-use Rattle.settings.proofs.Left.{said-as}
 use Rattle.text_settings.proofs.Rows.{textFacts, set-text}
 use Rattle.text_settings.proofs.Heads.{name-head}
 use borrow.Author.Needs.{needs}
+use Rattle.standard.proofs.Left.{said-as}
 use Rattle.text_settings.proofs.endpoint_name.set_name.Statement.{statement}
 use Rattle.text_settings.proofs.endpoint_name.set_name.Tie as tie
 

@@ -2,11 +2,11 @@ use mathlib.Core.Path.{refl, sym, _∙_}
 use Rattle.kinds.specs.declared.kind.Kind.the-variants as K
 use Rattle.kinds.specs.Fields.{Text}
 use Rattle.kinds.specs.Layout.{layout}
-use Rattle.settings.proofs.Left.{said, said-as}
 use Rattle.settings.proofs.Slots.{facts}
 use Rattle.text_settings.proofs.Plans.{each-refused, each-large, each-done}
 use Rattle.text_settings.proofs.Rows.{set-each}
 use borrow.Author.Needs.{needs}
+use Rattle.standard.proofs.Left.{said, said-as}
 use Rattle.text_settings.proofs.function_block_name.set_function_block.Statement.{
   statement,
 }

@@ -1,9 +1,9 @@
 use mathlib.Core.Path.{sym, _∙_}
 use borrow.Author.Tests.{not-true, not-false}
 use Rattle.kinds.specs.Layout.{layout}
-use Rattle.settings.proofs.Left.{said}
 use Rattle.writing.proofs.Cases.{identity, write-large, write-short, write-done}
 use borrow.Author.Needs.{needs}
+use Rattle.standard.proofs.Left.{said}
 use Rattle.writing.proofs.device_identity.write.Statement.{statement}
 use Rattle.writing.proofs.device_identity.write.Tie as tie
 

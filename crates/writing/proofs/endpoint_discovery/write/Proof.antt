@@ -1,9 +1,9 @@
 use native.Mathlib.Omega.{arith}
 use Rattle.kinds.specs.Layout.{layout}
-use Rattle.settings.proofs.Left.{said}
 use Rattle.writing.proofs.Cases.{discovery, write-short, write-done}
 use Rattle.records.proofs.Fitting.{discovery-fits}
 use borrow.Author.Needs.{needs}
+use Rattle.standard.proofs.Left.{said}
 use Rattle.writing.proofs.endpoint_discovery.write.Statement.{statement}
 use Rattle.writing.proofs.endpoint_discovery.write.Tie as tie
 

@@ -1,9 +1,9 @@
 use native.Mathlib.Omega.{arith}
 use Rattle.kinds.specs.Layout.{layout}
-use Rattle.settings.proofs.Left.{said}
 use Rattle.writing.proofs.Cases.{info, write-large, write-short, write-done}
 use Rattle.records.proofs.Fitting.{info-small, info-large}
 use borrow.Author.Needs.{needs}
+use Rattle.standard.proofs.Left.{said}
 use Rattle.writing.proofs.endpoint_info.write.Statement.{statement}
 use Rattle.writing.proofs.endpoint_info.write.Tie as tie
 

@@ -1,9 +1,9 @@
 use native.Mathlib.Omega.{arith}
 use Rattle.kinds.specs.Layout.{layout}
-use Rattle.settings.proofs.Left.{said}
 use Rattle.writing.proofs.Cases.{block, write-large, write-short, write-done}
 use Rattle.records.proofs.Fitting.{block-small, block-number-large, block-group-large}
 use borrow.Author.Needs.{needs}
+use Rattle.standard.proofs.Left.{said}
 use Rattle.writing.proofs.function_block_info.write.Statement.{statement}
 use Rattle.writing.proofs.function_block_info.write.Tie as tie
 

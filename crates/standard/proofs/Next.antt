@@ -55,7 +55,8 @@ pub whole-room : {f : Framed} (ws : List ℕ) (pos : ℕ) {n : PacketNumber} →
 whole-room ws pos e q = rw (← e, q) at (frame-room ws pos)
 
 -- ---- the walk
-size-some : (t : ℕ) → 1 ≤ sizeOf t
+-- every type has a word
+pub size-some : (t : ℕ) → 1 ≤ sizeOf t
 unfolding sizeOf
 size-some t =
     picked (λ n. 1 ≤ n) (ltb t 3) _ _ (λ q. lit≤ tt) (λ q. picked (λ n. 1 ≤ n) (ltb t 5) _ _ (λ q. lit≤ tt) (λ q. picked (λ n. 1 ≤ n) (ltb t 6) _ _ (λ q. lit≤ tt) (λ q.

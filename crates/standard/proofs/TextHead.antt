@@ -8,16 +8,15 @@ use lib.ListN.{getD}
 use lib.Pow.{shr-shr}
 use borrow.Author.Tests.{lt-ltb}
 use Rattle.laws.specs.Bits.{putField, wordOf}
-use Rattle.slots.specs.Slots.{Slot, fits, clear, low}
+use Rattle.slots.specs.Slots.{Slot, fits, clear, low, within}
 use Rattle.text.specs.Octets.{octetOf, due}
 use Rattle.text.specs.Written.{headOctet, octetAt, wordIn}
 use Rattle.text.proofs.Written.{octet-head, octet-text}
 use Rattle.text.proofs.Needed.{due-small}
 use Rattle.kinds.specs.Layout.{Part, textSlot}
 use Rattle.standard.specs.Heads.{headWord}
 use Rattle.standard.specs.Words.{putWord}
-use Rattle.slots.specs.Slots.{within}
-use Rattle.promises.proofs.OneWord.{word-small, put-head}
+use Rattle.standard.proofs.OneWord.{word-small, put-head}
 
 -- ---- a word from its octets: all of them, or the low ones changed
 octets-of : (w : ℕ) → w < 2 ^ 32 → (wordOf (octetOf w 0) (octetOf w 1) (octetOf w 2) (octetOf w 3) ≡ w) × ((b : ℕ) → wordOf (octetOf w 0) (octetOf w 1) (octetOf w 2) b ≡ w / 256 * 256 + b) × ((b c : ℕ) → wordOf (octetOf w 0) (octetOf w 1) b c ≡ w / 65536 * 65536 + (b * 256 + c))

@@ -10,11 +10,10 @@ use Rattle.laws.specs.Pick.{pick}
 use Rattle.laws.specs.Bits.{putField}
 use Rattle.laws.proofs.Bits.{put-lt}
 use Rattle.laws.proofs.Pick.{both-left, both-right}
-use Rattle.slots.specs.Slots.{Slot, put, putAll, those, fits, clear, sound, low}
+use Rattle.slots.specs.Slots.{Slot, put, putAll, those, fits, clear, sound, low, within}
 use Rattle.slots.proofs.Slots.{length-putAll, put-clear, put-those}
 use Rattle.kinds.specs.Layout.{Part, textSlot}
 use Rattle.standard.specs.Words.{putWord}
-use Rattle.slots.specs.Slots.{within}
 
 -- a table in the first word, whatever comes after it
 pub one-word : (t : List (Slot Part)) (v : Part → ℕ) (w : ℕ) → putAll t v (w ∷ []) ≡ putWord t v w ∷ []
