@@ -25,7 +25,7 @@ lower stride span i k s h hk =
     let m : stride * (i + 2) ≤ stride * (k + 1) = mul-le-mul-left stride (omega arith) in
     omega (arith, in-word stride k hk)
 
-pub parts-apart : (stride span i k : ℕ) → span ≤ stride → i < partsOf stride → k < partsOf stride → (i ≡ k → ⊥) → bits.Apart (placeOf stride i) span (placeOf stride k) span
+parts-apart : (stride span i k : ℕ) → span ≤ stride → i < partsOf stride → k < partsOf stride → (i ≡ k → ⊥) → bits.Apart (placeOf stride i) span (placeOf stride k) span
 parts-apart stride span i k s hi hk n =
     ⊎-elim (λ (h : i < k). inr (lower stride span i k s h hk))
     (λ (h : k ≤ i). inl (lower stride span k i s (omega arith) hi))
@@ -38,7 +38,7 @@ bit-byte false = refl
 
 -- ---- one law a case
 module _ (stride span w i : ℕ) where
-  pub part-in : i < partsOf stride → partIn stride span w i ≡ fieldOf w (placeOf stride i) span
+  part-in : i < partsOf stride → partIn stride span w i ≡ fieldOf w (placeOf stride i) span
   unfolding partIn
   part-in h = rw (lt-ltb _ _ h)
 
@@ -46,7 +46,7 @@ module _ (stride span w i : ℕ) where
   unfolding partIn
   part-out h = rw (le-ltb _ _ h)
 
-  pub put-in : (v : ℕ) → i < partsOf stride → v < 2 ^ span → putPart stride span w i v ≡ putField w (placeOf stride i) span v
+  put-in : (v : ℕ) → i < partsOf stride → v < 2 ^ span → putPart stride span w i v ≡ putField w (placeOf stride i) span v
   unfolding putPart
   put-in v h hv = rw (lt-ltb _ _ h, lt-ltb _ _ hv)
 
@@ -59,7 +59,7 @@ module _ (stride span w i : ℕ) where
   put-large v h hv = rw (lt-ltb _ _ h, le-ltb _ _ hv)
 
   -- a part fits its span
-  pub part-lt : partIn stride span w i < 2 ^ span
+  part-lt : partIn stride span w i < 2 ^ span
   part-lt =
       ⊎-elim (λ (h : i < partsOf stride). rw (part-in h) (mod-lt (w / 2 ^ placeOf stride i) (pow-pos span)))
       (λ (h : partsOf stride ≤ i). rw (part-out h) (pow-pos span))

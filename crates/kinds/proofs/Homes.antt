@@ -1,4 +1,4 @@
--- A field is of one kind: every other kind lacks it. Closed by computing the table once, row by row.
+-- A field is of one kind, and every other kind lacks it; a test of every kind, told at one. Closed by computing the table once, row by row.
 use Prim.Native.Nat.{ℕ}
 use mathlib.Core.Path.{_≡_, refl, sym, ap, _∙_}
 use mathlib.Core.Bool.{Bool, true, false}
@@ -53,7 +53,7 @@ pub one-status : (j k : Kind) → layout j .status ≡ layout k .status → j �
 one-status j k e = let q : Is j ≡ Is k = sym (status-kind j) ∙ ap kindOf e ∙ status-kind k in cc
 
 -- two kinds that have a field are one
-pub one-kind : (j k : Kind) (f : Field) → none (slotsOf f (layout j .fields)) ≡ false → none (slotsOf f (layout k .fields)) ≡ false → j ≡ k
+one-kind : (j k : Kind) (f : Field) → none (slotsOf f (layout j .fields)) ≡ false → none (slotsOf f (layout k .fields)) ≡ false → j ≡ k
 one-kind j k f a b = one-status j k (sym (home-is j f a) ∙ home-is k f b)
 
 -- so every other kind lacks it

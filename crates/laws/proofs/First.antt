@@ -49,18 +49,6 @@ first-none t n h = le-ltb _ _ (go (decLt (first t n) n))
     go (yes l) = true-false (sym (first-is t n .found l) ∙ h (first t n) l)
     go (no l) = omega arith
 
--- the first is the only number that is first
-pub first-only : (t : ℕ → Bool) (n r : ℕ) → IsFirst t 0 n r → r ≡ first t n
-first-only t n r h = go (decLt r (first t n)) (decLt (first t n) r)
-  where
-    f : IsFirst t 0 n (first t n)
-    f = first-is t n
-
-    go : Dec (r < first t n) → Dec (first t n < r) → r ≡ first t n
-    go (yes l) d = true-false (sym (h .found (omega (arith, f .high))) ∙ f .before r (omega arith) l)
-    go (no l) (yes m) = true-false (sym (f .found (omega (arith, h .high))) ∙ h .before (first t n) (omega arith) m)
-    go (no l) (no m) = omega arith
-
 -- ---- a loop that looks for it: what is left of the search is the whole search
 module _ (t : ℕ → Bool) (n i : ℕ) where
   pub first-turn : i < n → t i ≡ false → firstFrom t (n - (i + 1)) (i + 1) ≡ firstFrom t (n - i) i

@@ -1,6 +1,6 @@
 -- How long a message's part of a line is: with five bytes more, at most 68 for each packet. Closed by counting the digits of each field.
-use Prim.Native.Nat.{ℕ, _+_, _*_, _/_, _^_, _≤_, _<_}
-use mathlib.Core.Path.{_≡_, subst}
+use Prim.Native.Nat.{ℕ, _+_, _*_, _/_, _≤_, _<_}
+use mathlib.Core.Path.{_≡_}
 use mathlib.Core.Bool.{Bool, true, false}
 use mathlib.Core.List.{List}
 use native.Mathlib.Omega.{arith}
@@ -8,8 +8,8 @@ use lib.ListN.{length, length-append}
 use lib.Dec.{lit≤}
 use Rattle.laws.specs.Lists.{each}
 use Rattle.laws.proofs.Lists.{nonzero-length}
-use Rattle.slots.specs.Slots.{Slot, get, reads}
-use Rattle.slots.proofs.Slots.{get-small}
+use Rattle.slots.specs.Slots.{reads}
+use Rattle.slots.proofs.Slots.{got-small}
 use Rattle.text.specs.Bytes.{allBytes, textOf}
 use Rattle.text.proofs.Place.{length-all}
 use Rattle.kinds.specs.declared.choices.UiHint.{UiHint}
@@ -65,10 +65,6 @@ direction-length D.Input = digit-1 1 (lit≤ tt)
 direction-length D.Output = digit-1 2 (lit≤ tt)
 direction-length D.Bidirectional = digit-1 3 (lit≤ tt)
 
--- a number that stands in a slot is below the slot's bound
-held : {K : Type 0} (s : Slot K) (ws : List ℕ) {x : ℕ} → get s ws ≡ x → x < 2 ^ s .span
-held s ws e = subst (λ (n : ℕ). n < 2 ^ s .span) e (get-small s ws)
-
 -- four and seven bits are below eight, and the high septet tells of a pair
 nibble : {n : ℕ} → n < 16 → n < 256
 nibble h = omega arith
@@ -94,17 +90,17 @@ unfolding each reads layout partOf fieldsIn lookup firstPart same decided nameOf
 message-length (M.EndpointDiscovery e) t ws f =
     let h = f .fields 0 (f .some) in
     fixed-length (discovery-shown e ws)
-    (simp length-append (omega (arith, digit-1 1 (lit≤ tt), digits-3 _ (held _ _ (h .0)), digits-3 _ (held _ _ (h .1 .0)), bit-length (e .«request_endpoint_info»), bit-length (e .«request_device_identity»), bit-length (e .«request_endpoint_name»), bit-length (e .«request_product_instance_id»), bit-length (e .«request_stream_configuration»))))
+    (simp length-append (omega (arith, digit-1 1 (lit≤ tt), digits-3 _ (got-small _ _ (h .0)), digits-3 _ (got-small _ _ (h .1 .0)), bit-length (e .«request_endpoint_info»), bit-length (e .«request_device_identity»), bit-length (e .«request_endpoint_name»), bit-length (e .«request_product_instance_id»), bit-length (e .«request_stream_configuration»))))
 message-length (M.EndpointInfo e) t ws f =
     let h = f .fields 0 (f .some) in
     fixed-length (info-shown e ws)
-    (simp length-append (omega (arith, digit-1 1 (lit≤ tt), digits-3 _ (held _ _ (h .0)), digits-3 _ (held _ _ (h .1 .0)), bit-length (e .«static_function_blocks»), bit-length (e .«supports_midi2_protocol»), bit-length (e .«supports_midi1_protocol»), bit-length (e .«supports_receiving_jr_timestamps»), bit-length (e .«supports_sending_jr_timestamps»), digits-3 _ (small (held _ _ (h .1 .1 .1 .1 .1 .1 .1 .0))))))
+    (simp length-append (omega (arith, digit-1 1 (lit≤ tt), digits-3 _ (got-small _ _ (h .0)), digits-3 _ (got-small _ _ (h .1 .0)), bit-length (e .«static_function_blocks»), bit-length (e .«supports_midi2_protocol»), bit-length (e .«supports_midi1_protocol»), bit-length (e .«supports_receiving_jr_timestamps»), bit-length (e .«supports_sending_jr_timestamps»), digits-3 _ (small (got-small _ _ (h .1 .1 .1 .1 .1 .1 .1 .0))))))
 message-length (M.DeviceIdentity e) t ws f =
     let h = f .fields 0 (f .some) in
     let g = h .1 .1 .1 in
     let v = g .1 .1 .1 .1 in
     fixed-length (identity-shown e ws)
-    (simp length-append (omega (arith, digit-1 1 (lit≤ tt), digits-3 _ (small (held _ _ (h .0))), digits-3 _ (small (held _ _ (h .1 .0))), digits-3 _ (small (held _ _ (h .1 .1 .0))), digits-5 _ (pair (held _ _ (g .1 .0))), digits-5 _ (pair (held _ _ (g .1 .1 .1 .0))), digits-3 _ (small (held _ _ (v .0))), digits-3 _ (small (held _ _ (v .1 .0))), digits-3 _ (small (held _ _ (v .1 .1 .0))), digits-3 _ (small (held _ _ (v .1 .1 .1 .0))))))
+    (simp length-append (omega (arith, digit-1 1 (lit≤ tt), digits-3 _ (small (got-small _ _ (h .0))), digits-3 _ (small (got-small _ _ (h .1 .0))), digits-3 _ (small (got-small _ _ (h .1 .1 .0))), digits-5 _ (pair (got-small _ _ (g .1 .0))), digits-5 _ (pair (got-small _ _ (g .1 .1 .1 .0))), digits-3 _ (small (got-small _ _ (v .0))), digits-3 _ (small (got-small _ _ (v .1 .0))), digits-3 _ (small (got-small _ _ (v .1 .1 .0))), digits-3 _ (small (got-small _ _ (v .1 .1 .1 .0))))))
 message-length (M.EndpointName n) t ws f =
     let a = f .some in
     let b = f .most in
@@ -117,9 +113,9 @@ message-length (M.FunctionBlockInfo e) t ws f =
     let h = f .fields 0 (f .some) in
     let g = h .1 .1 .1 .1 .1 in
     fixed-length (block-shown e ws)
-    (simp length-append (omega (arith, digit-1 1 (lit≤ tt), bit-length (e .active), digits-3 _ (small (held _ _ (h .1 .0))), hint-length (e .«ui_hint»), port-length (e .«midi1_port»), direction-length (e .direction), digits-3 _ (nibble (held _ _ (g .0))), digits-3 _ (held _ _ (g .1 .0)), digits-3 _ (held _ _ (g .1 .1 .0)), digits-3 _ (held _ _ (g .1 .1 .1 .0)))))
+    (simp length-append (omega (arith, digit-1 1 (lit≤ tt), bit-length (e .active), digits-3 _ (small (got-small _ _ (h .1 .0))), hint-length (e .«ui_hint»), port-length (e .«midi1_port»), direction-length (e .direction), digits-3 _ (nibble (got-small _ _ (g .0))), digits-3 _ (got-small _ _ (g .1 .0)), digits-3 _ (got-small _ _ (g .1 .1 .0)), digits-3 _ (got-small _ _ (g .1 .1 .1 .0)))))
 message-length (M.FunctionBlockName b n) t ws f =
     let a = f .some in
     let c = f .most in
     let h = f .fields 0 (f .some) in
-    simp length-append (omega (arith, digits-2 (n .0) (omega arith), digits-3 b (held _ _ (h .0)), text-length ws 13 (n .0)))
+    simp length-append (omega (arith, digits-2 (n .0) (omega arith), digits-3 b (got-small _ _ (h .0)), text-length ws 13 (n .0)))

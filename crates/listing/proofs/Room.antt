@@ -148,7 +148,7 @@ module _ (ws : List ℕ) (pos : ℕ) (few : length ws ≤ 8192) (inside : pos < 
   fits (W.Refused r next) e h o = h
 
   -- A LINE takes at most 17 bytes for each word that it passes
-  pub line-room : length (lineOf (walkOf ws pos) ws pos) ≤ 17 * (nextOf (walkOf ws pos) pos - pos)
+  line-room : length (lineOf (walkOf ws pos) ws pos) ≤ 17 * (nextOf (walkOf ws pos) pos - pos)
   line-room = fits (walkOf ws pos) refl walk-plain (walk-onward ws pos inside)
 
 -- ---- all lines
@@ -162,7 +162,7 @@ visits-room ws (suc most) pos few =
     (λ g. rw (le-ltb pos (length ws) g) (omega arith))
     (below pos (length ws))
 
-pub lines-room : (ws : List ℕ) → length ws ≤ 8192 → length (linesOf ws) ≤ 17 * length ws
+lines-room : (ws : List ℕ) → length ws ≤ 8192 → length (linesOf ws) ≤ 17 * length ws
 lines-room ws few = omega (arith, visits-room ws (length ws) 0 few)
 
 words-length : (bytes : List ℕ) → length (wordsOf bytes) ≡ length bytes / 4

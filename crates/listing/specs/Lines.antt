@@ -28,7 +28,7 @@ nameOf K.FunctionBlockInfo = ascii "function-block-info"
 nameOf K.FunctionBlockName = ascii "function-block-name"
 
 -- the text of n packets, of a kind that has one
-abbrev pub textShown : Body → ℕ → List ℕ → List ℕ
+abbrev textShown : Body → ℕ → List ℕ → List ℕ
 textShown fixed n ws = []
 textShown (texts t from) n ws = ascii " " ++ shown (textOf ws (capacityIn (texts t from)) n)
 

@@ -17,7 +17,7 @@ unfoldable pub wordsOf : List ℕ → List ℕ
 wordsOf bytes = tabulate (length bytes / 4) (wordAt bytes)
 
 -- the line of a visit of the walk, and those of some visits
-abbrev pub visitLine : List ℕ → Visit → List ℕ
+abbrev visitLine : List ℕ → Visit → List ℕ
 visitLine ws v = lineOf (v .answer) ws (v .position)
 
 abbrev pub visitLines : List ℕ → List Visit → List ℕ

@@ -43,7 +43,7 @@ module _ (r : Row) (ws : List ℕ) (v : Field → List ℕ) where
       head-kept = get-clear headSlot (r .fields) (parts v) base cl f ∙ ap headBits (blank-first _ ws l)
 
       -- each slot holds its part
-      pub fixed-reads : reads (r .fields) (parts v) (encodeIn fixed r ws v)
+      fixed-reads : reads (r .fields) (parts v) (encodeIn fixed r ws v)
       unfolding encodeIn
       fixed-reads = reads-all 4 (r .fields) (parts v) base (rw length-blank l) lo so f
 

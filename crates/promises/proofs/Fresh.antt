@@ -5,7 +5,7 @@ use mathlib.Core.Bool.{true}
 use mathlib.Core.Logic.{⊎-elim}
 use mathlib.Core.List.{List, [], _∷_}
 use native.Mathlib.Omega.{arith}
-use lib.ListN.{length, getD}
+use lib.ListN.{length}
 use lib.Dec.{eqb, eqb·suc-zero}
 use Rattle.laws.specs.Pick.{pick}
 use Rattle.laws.specs.Lists.{upTo}
@@ -19,7 +19,7 @@ use Rattle.kinds.specs.Layout.{Part, texts, Row, parts}
 use Rattle.standard.specs.Heads.{headWord}
 use Rattle.standard.specs.Words.{putWord, headOf, encodeIn}
 use Rattle.standard.proofs.OneWord.{put-first}
-use Rattle.standard.proofs.TextHead.{empty-first, head-first}
+use Rattle.standard.proofs.TextHead.{empty-first, head-first, no-small}
 use Rattle.text.proofs.Rewritten.{head-zero}
 use Rattle.kinds.proofs.Rows.{TextRow}
 
@@ -60,9 +60,6 @@ none-written head cap ws = ap (λ (f : ℕ → ℕ). upTo (wholeWords ws) f ws) 
 
 -- ---- by body
 module _ (ws : List ℕ) (l : 4 ≤ length ws) (r : Row) where
-  no-small : (i : ℕ) → getD [] i 0 < 256
-  no-small i = omega arith
-
   text-first : (from : ℕ) → TextRow r from → (v : Part → ℕ) → fits (r .fields) v ≡ true → wordIn [] (λ f. putWord (r .fields) v (headWord (r .status) f)) (16 - from) 1 0 0 ≡ putWord (r .fields) v (headWord (r .status) 0)
   unfolding due
   text-first from k v f =

@@ -17,7 +17,7 @@ use Rattle.promises.specs.Values.{changed, fieldTold}
 
 -- ---- a field's last value comes from its own settings
 module _ (k : Kind) (room : ℕ) (f : Field) where
-  pub last-only : (v : List ℕ) (ss : List Setting) → last k room f v (only fieldIn f ss) ≡ last k room f v ss
+  last-only : (v : List ℕ) (ss : List Setting) → last k room f v (only fieldIn f ss) ≡ last k room f v ss
   unfolding last only both
   last-only v [] = refl
   last-only v (s ∷ ss) = go (same f (fieldIn s)) refl (λ w. last-only w ss)

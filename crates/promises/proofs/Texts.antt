@@ -85,7 +85,7 @@ module _ (r : Row) (x : Text) (from : ℕ) (k : TextRow r from) (ws : List ℕ) 
         reads-words 1 (r .fields) (parts v) (putAll (r .fields) (parts v) (w ∷ [])) l (k .first) (λ i h. let z : i ≡ 0 = omega arith in rw z (sym e))
         (reads-all 1 (r .fields) (parts v) (w ∷ []) (omega arith) (k .first) (k .sound) (g .numbers))
 
-    pub text-reads : (p : ℕ) → p < count → reads (r .fields) (parts v) (packetFrom (encodeIn (texts x from) r ws v) p)
+    text-reads : (p : ℕ) → p < count → reads (r .fields) (parts v) (packetFrom (encodeIn (texts x from) r ws v) p)
     text-reads p h =
         let e : p * 4 + 0 ≡ p * 4 = omega arith in
         put-reads (bare p) _ (getD-drop (p * 4) (encodeIn (texts x from) r ws v) 0 0 ∙ ap (λ (i : ℕ). getD (encodeIn (texts x from) r ws v) i 0) e ∙ first-put p h)

@@ -60,7 +60,7 @@ module _ (m : Message) (ws : List ℕ) (fixed-kind : hasText (layout (kindIn m) 
         direction = direction-named m;
       }
 
-  pub write-is : writeOn m ws ≡ left A.Done (encode (kindIn m) ws (valuesOf m))
+  write-is : writeOn m ws ≡ left A.Done (encode (kindIn m) ws (valuesOf m))
   unfolding writeOn
   write-is =
       sym
@@ -69,14 +69,14 @@ module _ (m : Message) (ws : List ℕ) (fixed-kind : hasText (layout (kindIn m) 
       (past _ (ne-eqb (packetsOf ws) 0 (λ e. omega arith)) refl)))
 
   -- each slot holds its part of the record
-  pub write-holds : reads (layout (kindIn m) .fields) (parts (valuesOf m)) (writeOn m ws .words)
+  write-holds : reads (layout (kindIn m) .fields) (parts (valuesOf m)) (writeOn m ws .words)
   write-holds = rw write-is (encode-holds (kindIn m) ws l (valuesOf m) good)
 
   -- AND IT IS READ BACK
   is-back : recordFor (kindIn m) (valuesOf m) ≡ m
   is-back = ap (λ (n : ℕ). recordOf (kindIn m) n (valuesOf m)) (no-text (layout (kindIn m) .body) (valuesOf m) fixed-kind .1 ∙ sym (one-packet m fixed-kind)) ∙ record-back m
 
-  pub write-read : readOf (take 4 (writeOn m ws .words)) ≡ R.Message m
+  write-read : readOf (take 4 (writeOn m ws .words)) ≡ R.Message m
   write-read =
       let n : packetsNeeded (kindIn m) (valuesOf m) ≡ 1 = no-text (layout (kindIn m) .body) (valuesOf m) fixed-kind .1 in
       rw write-is
@@ -87,12 +87,12 @@ passed-done : (t : Bool) (x y : Left) → (x .answer ≡ A.Done → ⊥) → pic
 passed-done true x y n e = absurd (n e)
 passed-done false x y n e = (refl, e)
 
-pub record Writes (m : Message) (ws : List ℕ) : Type 0 where
-  pub fixed-kind : hasText (layout (kindIn m) .body) ≡ false
-  pub small : fits (layout (kindIn m) .fields) (parts (valuesOf m)) ≡ true
-  pub room : 4 ≤ length ws
+record Writes (m : Message) (ws : List ℕ) : Type 0 where
+  fixed-kind : hasText (layout (kindIn m) .body) ≡ false
+  small : fits (layout (kindIn m) .fields) (parts (valuesOf m)) ≡ true
+  room : 4 ≤ length ws
 
-pub write-done : (m : Message) (ws : List ℕ) → writeOn m ws .answer ≡ A.Done → Writes m ws
+write-done : (m : Message) (ws : List ℕ) → writeOn m ws .answer ≡ A.Done → Writes m ws
 unfolding writeOn
 write-done m ws e =
     let a = passed-done (hasText (layout (kindIn m) .body)) (unchanged NoSuchField ws) _ refused-done e in
@@ -110,7 +110,7 @@ module _ (as-read ws : List ℕ) (m : Message) (e : readOf as-read ≡ R.Message
   held-there : reads (layout (kindIn m) .fields) (parts (valuesOf m)) as-read
   held-there = let f = read-formed as-read m e in f .fields 0 (f .some)
 
-  pub read-fits : fits (layout (kindIn m) .fields) (parts (valuesOf m)) ≡ true
+  read-fits : fits (layout (kindIn m) .fields) (parts (valuesOf m)) ≡ true
   read-fits = reads-fits _ _ as-read held-there
 
   module _ (fixed-kind : hasText (layout (kindIn m) .body) ≡ false) (l : 4 ≤ length ws) where

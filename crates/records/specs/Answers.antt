@@ -29,7 +29,7 @@ abbrev pub refused : Refusal → List ℕ → Said
 refused r xs = record { refusal = numberOf r; place = placeOf r; values = xs }
 
 -- a message: its status, its packets, and its fields in the table's order
-abbrev pub saidMessage : Message → List ℕ
+abbrev saidMessage : Message → List ℕ
 saidMessage m = layout (kindIn m) .status ∷ packetsIn m ∷ numbersIn m
 
 abbrev pub saidRead : Read → Said

@@ -76,7 +76,7 @@ chosenIn b h p d =
 
 -- ---- a chain
 -- a chain keeps its first refusal, and goes on with the record handed back
-abbrev pub firstRefusal : Answer → Answer → Answer
+abbrev firstRefusal : Answer → Answer → Answer
 firstRefusal A.Done b = b
 firstRefusal (A.Refused r) b = A.Refused r
 

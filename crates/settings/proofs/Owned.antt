@@ -26,7 +26,7 @@ use Rattle.settings.specs.declared.target.Target.the-variants as T
 use Rattle.settings.specs.Target.{ownIn, targetOf}
 
 -- two tests say the same
-abbrev pub alike : Bool → Bool → Bool
+abbrev alike : Bool → Bool → Bool
 alike a b = pick a b (not b)
 
 alike-same : (a b : Bool) → alike a b ≡ true → a ≡ b
@@ -48,7 +48,7 @@ module _ (k : Kind) (s : Setting) (own : ownedBy k s ≡ true) where
   own-has = lacking k ∙ eq-differ (layout k .status) _ refl
 
 -- what an accepted or refused setting leaves of a message of n packets of a kind
-abbrev pub setOwn : Kind → ℕ → Setting → List ℕ → Left
+abbrev setOwn : Kind → ℕ → Setting → List ℕ → Left
 setOwn k n s ws = left (answerTo (layout k) (packetsOf ws) s) (afterAnswer (answerTo (layout k) (packetsOf ws) s) (layout k) n s ws)
 
 -- the packets of the target are the buffer's, and the setting is the kind's own

@@ -1,6 +1,6 @@
 -- Laws of a table of slots, over (word, lowest bit, width). By induction on the table, over the laws of one field.
 use Prim.Native.Nat.{ℕ, _+_, _^_, _<_, _≤_}
-use mathlib.Core.Path.{_≡_, refl, sym, ap, _∙_}
+use mathlib.Core.Path.{_≡_, refl, sym, ap, _∙_, subst}
 use mathlib.Core.Bool.{Bool, true, false}
 use mathlib.Core.Logic.{_⊎_, inl, inr, ⊎-elim, _≢_}
 use mathlib.Core.List.{List, [], _∷_}
@@ -8,13 +8,13 @@ use native.Mathlib.Omega.{arith}
 use native.Mathlib.Nat.{mod-lt}
 use lib.Pow.{pow-pos}
 use lib.ListN.{length, getD, set, length-set}
-use lib.Seq.{getD-set-same, getD-set-other, set-set, set-comm, set-out, set-getD}
+use lib.Seq.{getD-set-same, getD-set-other, set-set, set-comm, set-out}
 use lib.Dec.{ltb, leb, eqb}
 use borrow.Author.Tests.{ltb-true, leb-true, eqb-true, eqb-false}
 use Rattle.laws.specs.Pick.{pick, both}
 use Rattle.laws.specs.Bits.{fieldOf, putField}
 use Rattle.laws.proofs.Pick.{either, below, both-left, both-right, both-true}
-use Rattle.laws.proofs.Bits.{get-put, get-other, put-over, put-swap, put-back, Apart, apart-sym}
+use Rattle.laws.proofs.Bits.{get-put, get-other, put-over, put-swap, Apart, apart-sym}
 use Rattle.slots.specs.Slots.{Slot, get, put, putAll, those, fits, apart, clear, sound, low, reads}
 
 -- ---- one slot, over plain numbers
@@ -60,38 +60,37 @@ apart-cases s t e = go (eqb (s .word) (t .word)) refl e
     go false p q = inl (eqb-false _ _ p)
 
 -- ---- slots
-pub length-put : {K : Type 0} (s : Slot K) (v : ℕ) (ws : List ℕ) → length (put s v ws) ≡ length ws
+length-put : {K : Type 0} (s : Slot K) (v : ℕ) (ws : List ℕ) → length (put s v ws) ≡ length ws
 unfolding put
 length-put s v ws = length-set ws _ _
 
-pub put-put : {K : Type 0} (s : Slot K) (u v : ℕ) (ws : List ℕ) → u < 2 ^ s .span → put s v (put s u ws) ≡ put s v ws
+put-put : {K : Type 0} (s : Slot K) (u v : ℕ) (ws : List ℕ) → u < 2 ^ s .span → put s v (put s u ws) ≡ put s v ws
 unfolding put putAt
 put-put s u v ws h = over ws (s .word) (s .at) (s .span) u v h
 
-pub put-apart : {K L : Type 0} (s : Slot K) (t : Slot L) (u v : ℕ) (ws : List ℕ) → apart s t ≡ true → u < 2 ^ s .span → v < 2 ^ t .span → put t v (put s u ws) ≡ put s u (put t v ws)
+put-apart : {K L : Type 0} (s : Slot K) (t : Slot L) (u v : ℕ) (ws : List ℕ) → apart s t ≡ true → u < 2 ^ s .span → v < 2 ^ t .span → put t v (put s u ws) ≡ put s u (put t v ws)
 unfolding put putAt
 put-apart s t u v ws a hu hv =
     ⊎-elim (λ (ne : s .word ≢ t .word). swap-other ws (s .word) (s .at) (s .span) u (t .word) (t .at) (t .span) v ne)
     (λ (b : (s .word ≡ t .word) × Apart (s .at) (s .span) (t .at) (t .span)). rw (← b .0) (swap-same ws (s .word) (s .at) (s .span) u (t .at) (t .span) v hu hv (b .1))) (apart-cases s t a)
 
-pub get-same : {K : Type 0} (s : Slot K) (v : ℕ) (ws : List ℕ) → s .word < length ws → v < 2 ^ s .span → get s (put s v ws) ≡ v
+get-same : {K : Type 0} (s : Slot K) (v : ℕ) (ws : List ℕ) → s .word < length ws → v < 2 ^ s .span → get s (put s v ws) ≡ v
 unfolding put get
 get-same s v ws l h = ap (λ (x : ℕ). fieldOf x (s .at) (s .span)) (getD-set-same ws (s .word) _ 0 l) ∙ get-put (getD ws (s .word) 0) (s .at) (s .span) v h
 
-pub get-apart : {K L : Type 0} (s : Slot K) (t : Slot L) (v : ℕ) (ws : List ℕ) → apart s t ≡ true → v < 2 ^ t .span → get s (put t v ws) ≡ get s ws
+get-apart : {K L : Type 0} (s : Slot K) (t : Slot L) (v : ℕ) (ws : List ℕ) → apart s t ≡ true → v < 2 ^ t .span → get s (put t v ws) ≡ get s ws
 unfolding put get putAt
 get-apart s t v ws a h =
     ⊎-elim (λ (ne : s .word ≢ t .word). ap (λ (x : ℕ). fieldOf x (s .at) (s .span)) (getD-set-other ws (t .word) (s .word) _ 0 ne))
     (λ (b : (s .word ≡ t .word) × Apart (s .at) (s .span) (t .at) (t .span)). rw (b .0) (kept-same ws (t .word) (t .at) (t .span) v (s .at) (s .span) h (apart-sym _ _ _ _ (b .1)))) (apart-cases s t a)
 
-pub put-kept : {K : Type 0} (s : Slot K) (v : ℕ) (ws : List ℕ) → get s ws ≡ v → put s v ws ≡ ws
-unfolding put get
-put-kept s v ws e = ap (λ (x : ℕ). set ws (s .word) x) (put-back (getD ws (s .word) 0) (s .at) (s .span) v e) ∙ set-getD ws (s .word) 0
-
 -- a number in a slot is below the slot's bound
 pub get-small : {K : Type 0} (s : Slot K) (ws : List ℕ) → get s ws < 2 ^ s .span
 unfolding get
 get-small s ws = mod-lt _ (pow-pos (s .span))
+
+pub got-small : {K : Type 0} (s : Slot K) (ws : List ℕ) {x : ℕ} → get s ws ≡ x → x < 2 ^ s .span
+got-small s ws e = subst (λ (n : ℕ). n < 2 ^ s .span) e (get-small s ws)
 
 -- ---- a table
 pub length-putAll : {K : Type 0} (ss : List (Slot K)) (v : K → ℕ) (ws : List ℕ) → length (putAll ss v ws) ≡ length ws
@@ -112,7 +111,7 @@ get-clear s [] v ws c f = refl
 get-clear s (t ∷ ts) v ws c f =
     get-apart s t (v (t .key)) (putAll ts v ws) (both-left _ _ c) (ltb-true _ _ (both-left _ _ f)) ∙ get-clear s ts v ws (both-right _ _ c) (both-right _ _ f)
 
-pub those-clear : {K L : Type 0} (t : K → Bool) (s : Slot L) (ss : List (Slot K)) → clear s ss ≡ true → clear s (those t ss) ≡ true
+those-clear : {K L : Type 0} (t : K → Bool) (s : Slot L) (ss : List (Slot K)) → clear s ss ≡ true → clear s (those t ss) ≡ true
 unfolding clear those
 those-clear t s [] c = refl
 those-clear t s (x ∷ xs) c = go (t (x .key)) (those-clear t s xs (both-right _ _ c))

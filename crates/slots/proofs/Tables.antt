@@ -1,6 +1,6 @@
 -- Laws of a table of slots over words that agree, and of values that fit. By induction on the table.
-use Prim.Native.Nat.{ℕ, _^_, _≤_, _<_}
-use mathlib.Core.Path.{_≡_, refl, sym, ap, _∙_, subst}
+use Prim.Native.Nat.{ℕ, _≤_, _<_}
+use mathlib.Core.Path.{_≡_, refl, sym, ap, _∙_}
 use mathlib.Core.Bool.{Bool, true, false}
 use mathlib.Core.List.{List, [], _∷_}
 use native.Mathlib.Omega.{arith}
@@ -11,7 +11,7 @@ use Rattle.laws.specs.Bits.{fieldOf}
 use Rattle.laws.specs.Lists.{map}
 use Rattle.laws.proofs.Pick.{both-left, both-right, both-true}
 use Rattle.slots.specs.Slots.{Slot, get, put, putAll, those, fits, low, reads}
-use Rattle.slots.proofs.Slots.{get-small}
+use Rattle.slots.proofs.Slots.{got-small}
 
 -- a table within some words is within more
 pub low-more : {K : Type 0} (m n : ℕ) (t : List (Slot K)) → m ≤ n → low m t ≡ true → low n t ≡ true
@@ -39,7 +39,7 @@ put-alike (s ∷ ss) u v a ws p q =
 pub reads-fits : {K : Type 0} (t : List (Slot K)) (v : K → ℕ) (ws : List ℕ) → reads t v ws → fits t v ≡ true
 unfolding reads fits
 reads-fits [] v ws r = refl
-reads-fits (s ∷ ss) v ws r = both-true _ _ (lt-ltb _ _ (subst (λ (x : ℕ). x < 2 ^ s .span) (r .0) (get-small s ws))) (reads-fits ss v ws (r .1))
+reads-fits (s ∷ ss) v ws r = both-true _ _ (lt-ltb _ _ (got-small s ws (r .0))) (reads-fits ss v ws (r .1))
 
 -- words that hold the same are read alike, by any slots of the table
 pub gets-alike : {K : Type 0} (t : List (Slot K)) (v : K → ℕ) (test : K → Bool) (a b : List ℕ) → reads t v a → reads t v b → map (λ s. get s a) (those test t) ≡ map (λ s. get s b) (those test t)

@@ -49,7 +49,7 @@ record-holds K.FunctionBlockName n ws p d = (refl, tt)
 
 module _ (v : Field → List ℕ) (ws : List ℕ) where
   -- words that hold values are read as their record
-  pub values-record : (k : Kind) (n : ℕ) → reads (layout k .fields) (parts v) ws → recordOf k n (valuesAt k ws) ≡ recordOf k n v
+  values-record : (k : Kind) (n : ℕ) → reads (layout k .fields) (parts v) ws → recordOf k n (valuesAt k ws) ≡ recordOf k n v
   unfolding reads layout recordOf valuesIn those map held joined same decided partOf
   values-record K.EndpointDiscovery n h = simp (h .0, h .1 .0, h .1 .1 .0, h .1 .1 .1 .0, h .1 .1 .1 .1 .0, h .1 .1 .1 .1 .1 .0, h .1 .1 .1 .1 .1 .1 .0)
   values-record K.EndpointInfo n h = simp (h .0, h .1 .0, h .1 .1 .0, h .1 .1 .1 .0, h .1 .1 .1 .1 .0, h .1 .1 .1 .1 .1 .0, h .1 .1 .1 .1 .1 .1 .0, h .1 .1 .1 .1 .1 .1 .1 .0)

@@ -43,7 +43,7 @@ module _ (ws : List ℕ) (n : ℕ) (room : n * 4 ≤ length ws) where
   unfolding allBytes tabulate
   no-bytes xs = let z : n * 0 ≡ 0 = omega arith in rw z
 
-  pub front-text : (cap : ℕ) → cap ≤ 16 → textOf (take (n * 4) ws) cap n ≡ textOf ws cap n
+  front-text : (cap : ℕ) → cap ≤ 16 → textOf (take (n * 4) ws) cap n ≡ textOf ws cap n
   front-text zero h = ap nonzero (no-bytes (take (n * 4) ws) ∙ sym (no-bytes ws))
   front-text (suc cap) h = ap nonzero (front-bytes (suc cap) h (omega arith))
 

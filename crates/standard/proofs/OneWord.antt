@@ -16,7 +16,7 @@ use Rattle.kinds.specs.Layout.{Part, textSlot}
 use Rattle.standard.specs.Words.{putWord}
 
 -- a table in the first word, whatever comes after it
-pub one-word : (t : List (Slot Part)) (v : Part → ℕ) (w : ℕ) → putAll t v (w ∷ []) ≡ putWord t v w ∷ []
+one-word : (t : List (Slot Part)) (v : Part → ℕ) (w : ℕ) → putAll t v (w ∷ []) ≡ putWord t v w ∷ []
 unfolding putWord
 one-word t v w = go (putAll t v (w ∷ [])) (length-putAll t v (w ∷ []))
   where

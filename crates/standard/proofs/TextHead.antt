@@ -110,10 +110,10 @@ module _ (text : List ℕ) (small : (i : ℕ) → getD text i 0 < 256) (n p from
       a .1 ∙ sym (put-head t v (headWord st (due n p)) from (lowText text small n p from) c f (a .0)) ∙ ap (putWord t v) (sym (b .1))
 
 -- with no text the first word is the head
-module _ (st n p : ℕ) (hs : st < 0x400) where
-  no-small : (i : ℕ) → getD [] i 0 < 256
-  no-small i = omega arith
+pub no-small : (i : ℕ) → getD [] i 0 < 256
+no-small i = omega arith
 
+module _ (st n p : ℕ) (hs : st < 0x400) where
   abbrev word : ℕ
   word = headWord st (due n p)
 

@@ -30,7 +30,7 @@ pub part-length : (ws : List ℕ) (pos n : ℕ) → pos + n * 4 ≤ length ws �
 part-length ws pos n h = simp (length-take, length-drop) (omega arith)
 
 -- ---- a packet's first word in the part and in the stream
-pub part-head : (ws : List ℕ) (pos n p : ℕ) → p < n → headAt (part ws pos n) p ≡ getD ws (pos + p * 4) 0
+part-head : (ws : List ℕ) (pos n p : ℕ) → p < n → headAt (part ws pos n) p ≡ getD ws (pos + p * 4) 0
 part-head ws pos n p h = let l : p * 4 < pos + n * 4 - pos = omega arith in rw (getD-take, getD-drop)
 
 -- ---- the format due is the one that the chain rule takes
@@ -81,7 +81,7 @@ module _ (m : Message) (t ws : List ℕ) (pos : ℕ) (room : pos + packetsIn m *
           let b : suc p ≡ packetsIn m = omega arith in
           (rw (← due-ends (packetsIn m) p a, b)) ∙ open-packet p at _ l e
 
-  pub formed-frames : frameOf ws pos ≡ Whole (packet (packetsIn m))
+  formed-frames : frameOf ws pos ≡ Whole (packet (packetsIn m))
   unfolding frameOf
   formed-frames = rw (first, f .status 0 (f .some)) (sym (frames 64 0 pos refl (f .some) (omega arith)))
 

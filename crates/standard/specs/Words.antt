@@ -50,7 +50,7 @@ unfoldable pub fresh : Kind → List ℕ → List ℕ
 fresh k ws = putAll (layout k .fields) (parts start) (blank (headWord (layout k .status) 0) ws)
 
 -- refusals 5, then 14
-abbrev pub freshKnown : Known → List ℕ → Left
+abbrev freshKnown : Known → List ℕ → Left
 freshKnown Unknown ws = unchanged UnknownStatus ws
 freshKnown (Is k) ws = pick (noPacket ws) (unchanged NoRoom ws) (left A.Done (fresh k ws))
 
@@ -97,7 +97,7 @@ answerTo r room s =
     A.Done))))
 
 -- the field's slots put into a packet
-abbrev pub putSetting : Row → Setting → List ℕ → List ℕ
+abbrev putSetting : Row → Setting → List ℕ → List ℕ
 putSetting r s ws = putAll (slotsOf (fieldIn s) (r .fields)) (parts (λ f. valueIn s)) ws
 
 -- what an accepted setting does to the message of n packets at position 0: a text keeps the fields of its head, a head's field goes into each packet and none after

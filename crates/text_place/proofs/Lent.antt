@@ -25,11 +25,11 @@ use Rattle.standard.specs.Place.{offsetHere, nextByte}
 use Rattle.text_place.specs.Lent.{capacityHere, textHere, answers, leftAfter}
 
 -- ---- the capacity
-pub offset-small : (ws : List ℕ) → (offsetHere ws ≡ 1) ⊎ (offsetHere ws ≡ 0)
+offset-small : (ws : List ℕ) → (offsetHere ws ≡ 1) ⊎ (offsetHere ws ≡ 0)
 unfolding offsetHere
 offset-small ws = split (eqb (statusOf (headAt ws 0)) (layout K.FunctionBlockName .status)) (λ t. inl (sym (here 0 t refl))) (λ t. inr (sym (past 1 t refl)))
 
-pub capacity-is : (ws : List ℕ) → (capacityHere ws ≡ 13) ⊎ (capacityHere ws ≡ 14)
+capacity-is : (ws : List ℕ) → (capacityHere ws ≡ 13) ⊎ (capacityHere ws ≡ 14)
 capacity-is ws = ⊎-elim (λ e. inl (rw e)) (λ e. inr (rw e)) (offset-small ws)
 
 positive : (ws : List ℕ) → 0 < capacityHere ws

@@ -14,7 +14,7 @@ same-ranges [] (d ∷ ds) = false
 same-ranges (c ∷ cs) [] = false
 same-ranges ((a ‥ b) ∷ cs) ((e ‥ f) ∷ ds) = (eqb a e && eqb b f) && same-ranges cs ds
 
-pub ranges-eq : (cs ds : List Range) → T (same-ranges cs ds) → cs ≡ ds
+ranges-eq : (cs ds : List Range) → T (same-ranges cs ds) → cs ≡ ds
 unfolding same-ranges
 ranges-eq [] [] t = refl
 ranges-eq [] (d ∷ ds) t = absurd t

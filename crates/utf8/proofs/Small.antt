@@ -34,7 +34,7 @@ row-narrow (((low ‥ high) then ds′) ∷ rows) t x ds e = go (inside (low ‥
     go false p q ih = ih q
 
 -- each byte is one
-abbrev pub Small : List ℕ → Type 0
+abbrev Small : List ℕ → Type 0
 Small t = (i : ℕ) → getD t i 0 < 256
 
 small-more : (x : ℕ) (t : List ℕ) → x < 256 → Small t → Small (x ∷ t)

@@ -55,7 +55,7 @@ tails : (k : ℕ) → ranges k 0x80 0xBF ≡ replicate k tail
 tails zero = refl
 tails (suc k) = refl
 
-pub stepped-law : (s : Scan) (n : TextByteNumber) (b : ℕ) → b < 256 → meaning (steppedOf s n b) ≡ next (meaning s) (n .0) b
+stepped-law : (s : Scan) (n : TextByteNumber) (b : ℕ) → b < 256 → meaning (steppedOf s n b) ≡ next (meaning s) (n .0) b
 unfolding steppedOf
 stepped-law (Stopped m) n b h = refl
 stepped-law (Going zero low high start) n b h = began-law n b h
@@ -68,7 +68,7 @@ stepped-law (Going (suc k) low high start) n b h = rw eqb·suc-zero (go (inside 
     go true = ap (λ (j : ℕ). going (ranges j 0x80 0xBF) (start .0)) less ∙ ap (λ (l : List Range). going l (start .0)) (tails k)
     go false = refl
 
-pub ended-law : (s : Scan) → endedOf s ≡ verdict (meaning s)
+ended-law : (s : Scan) → endedOf s ≡ verdict (meaning s)
 unfolding endedOf
 ended-law (Stopped m) = refl
 ended-law (Going zero low high start) = refl
@@ -92,7 +92,7 @@ pub unread-law : (xs : List ℕ) → verdictOn unreadOf xs ≡ firstBad (nonzero
 unfolding firstBad
 unread-law xs = refl
 
-pub read-law : (r : Reading) (b : ℕ) (xs : List ℕ) → b < 256 → r .at .0 + 1 < 2 ^ 64 → verdictOn (readOf r b) xs ≡ verdictOn r (b ∷ xs)
+read-law : (r : Reading) (b : ℕ) (xs : List ℕ) → b < 256 → r .at .0 + 1 < 2 ^ 64 → verdictOn (readOf r b) xs ≡ verdictOn r (b ∷ xs)
 unfolding readOf nonzero
 read-law r zero xs h k = refl
 read-law r (suc n) xs h k = rw (eqb·suc-zero, mod-eq-of-lt k, add-one, stepped-law (r .scan) (r .at) (suc n) h)

@@ -62,7 +62,7 @@ keeps (suc x ∷ xs) [] n m at k t e = rw eqb·suc-zero (keeps-first (suc x) xs 
 keeps (suc x ∷ xs) ((low ‥ high) ∷ ds) n m at k t e =
     rw eqb·suc-zero (keeps-next (suc x) xs (keeps xs) ds n m at k (and-right (leb 1 low) (above ds) t) (inside (low ‥ high) (suc x)) e)
 
-pub nonzero-good : (xs : List ℕ) → firstBad xs ≡ Good → firstBad (nonzero xs) ≡ Good
+nonzero-good : (xs : List ℕ) → firstBad xs ≡ Good → firstBad (nonzero xs) ≡ Good
 unfolding firstBad nonzero
 nonzero-good xs e = keeps xs [] 0 0 0 0 tt e
 

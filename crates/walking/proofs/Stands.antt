@@ -1,10 +1,10 @@
 -- The walk answers a message exactly where a well-formed one stands. Closed by framing its packets one by one, and by the laws of reading.
-use Prim.Native.Nat.{ℕ, _+_, _-_, _*_, _≤_}
+use Prim.Native.Nat.{ℕ, _+_, _-_, _*_, _/_, _≤_}
 use mathlib.Core.Path.{_≡_, refl, sym, ap, _∙_}
 use mathlib.Core.Bool.{Bool, true, false}
 use mathlib.Core.List.{List}
 use native.Mathlib.Omega.{arith}
-use lib.ListN.{length, getD}
+use lib.ListN.{length, getD, take, drop}
 use lib.Dec.{ltb, leb}
 use Rattle.laws.specs.Pick.{pick, differ}
 use Rattle.laws.proofs.Pick.{never, passed}
@@ -16,6 +16,7 @@ use Rattle.records.specs.declared.answers.Read.{Read}
 use Rattle.records.specs.declared.answers.Read.the-variants as R
 use Rattle.records.specs.declared.answers.Walked.the-variants as W
 use Rattle.records.specs.Records.{packetsIn}
+use Rattle.records.specs.declared.answers.Walked.{Walked}
 use Rattle.standard.specs.declared.Framed.{Framed}
 use Rattle.standard.specs.declared.Framed.the-variants.{Whole, Short, Broken}
 use Rattle.standard.specs.Heads.{typeOf, streamType}
@@ -60,3 +61,20 @@ walk-formed ws pos m next e =
     let a = passed (leb (length ws) pos) W.End _ (W.Message m next) (λ q. never (cc)) e in
     let b = passed (differ (typeOf (getD ws pos 0)) streamType) (otherOf (typeOf (getD ws pos 0)) ws pos) _ (W.Message m next) (other-not _ ws pos m next) (a .1) in
     framed-stands (frameOf ws pos) ws pos m next refl (b .1)
+
+-- ---- a message's words are those from its position to the next
+module _ (ws : List ℕ) (pos : ℕ) (a : Walked) (m : Message) (next : WordNumber) (w : a ≡ walkOf ws pos) (e : a ≡ W.Message m next) where
+  stands : Stands m (textThere m ws pos) ws pos next
+  stands = walk-formed ws pos m next (sym w ∙ e)
+
+  after : next .0 ≡ pos + packetsIn m * 4
+  after = ap (λ (n : WordNumber). n .0) (stands .after)
+
+  pub message-within : (pos ≤ next .0) × (next .0 ≤ length ws)
+  message-within = (omega (arith, after), omega (arith, after, stands .room))
+
+  pub message-words : part ws pos (packetsIn m) ≡ take (next .0 - pos) (drop pos ws)
+  message-words = rw after
+
+  pub message-packets : length (take (next .0 - pos) (drop pos ws)) / 4 ≡ packetsIn m
+  message-packets = let l = part-length ws pos (packetsIn m) (stands .room) in rw after (omega arith)

@@ -32,11 +32,11 @@ nextAt ws pos = nextOf (walkOf ws pos) pos
 
 -- ---- a visit, and the end of them
 module _ (most : ℕ) (ws : List ℕ) (pos : ℕ) where
-  visits-more : pos < length ws → visits (suc most) ws pos ≡ record { position = pos; answer = walkOf ws pos } ∷ visits most ws (nextAt ws pos)
+  pub visits-more : pos < length ws → visits (suc most) ws pos ≡ record { position = pos; answer = walkOf ws pos } ∷ visits most ws (nextAt ws pos)
   unfolding visits
   visits-more h = rw (lt-ltb _ _ h)
 
-visits-none : (most : ℕ) (ws : List ℕ) (pos : ℕ) → length ws ≤ pos → visits most ws pos ≡ []
+pub visits-none : (most : ℕ) (ws : List ℕ) (pos : ℕ) → length ws ≤ pos → visits most ws pos ≡ []
 unfolding visits
 visits-none zero ws pos h = refl
 visits-none (suc most) ws pos h = rw (le-ltb _ _ h)
@@ -54,21 +54,6 @@ tiles (suc most) ws pos h l = go (below pos (length ws)) (tiles most ws (nextAt 
 
 pub visits-tile : (ws : List ℕ) → Tiles 0 (visitsOf ws) (length ws)
 visits-tile ws = tiles (length ws) ws 0 (omega arith) (omega arith)
-
--- ---- as many as there are words is enough, and more give no others
-visits-same : (a b : ℕ) (ws : List ℕ) (pos : ℕ) → length ws - pos ≤ a → length ws - pos ≤ b → visits a ws pos ≡ visits b ws pos
-visits-same zero b ws pos h k = visits-none zero ws pos (omega arith) ∙ sym (visits-none b ws pos (omega arith))
-visits-same (suc a) zero ws pos h k = visits-none (suc a) ws pos (omega arith) ∙ sym (visits-none zero ws pos (omega arith))
-visits-same (suc a) (suc b) ws pos h k = go (below pos (length ws)) (visits-same a b ws (nextAt ws pos))
-  where
-    go : (pos < length ws) ⊎ (length ws ≤ pos) → (length ws - nextAt ws pos ≤ a → length ws - nextAt ws pos ≤ b → visits a ws (nextAt ws pos) ≡ visits b ws (nextAt ws pos)) → visits (suc a) ws pos ≡ visits (suc b) ws pos
-    go (inl l) more =
-        let n = next-between ws pos (nextAt ws pos) (walkOf ws pos) l refl refl in
-        rw (visits-more a ws pos l, visits-more b ws pos l, more (omega arith) (omega arith))
-    go (inr l) more = visits-none (suc a) ws pos l ∙ sym (visits-none (suc b) ws pos l)
-
-pub visits-enough : (most : ℕ) (ws : List ℕ) → length ws ≤ most → visits most ws 0 ≡ visitsOf ws
-visits-enough most ws h = visits-same most (length ws) ws 0 (omega arith) (omega arith)
 
 -- ---- each answer is the walk's
 answers : (most : ℕ) (ws : List ℕ) (pos : ℕ) → Answers ws (visits most ws pos)

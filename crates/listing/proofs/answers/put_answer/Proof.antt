@@ -1,7 +1,7 @@
 use native.Mathlib.Omega.{arith}
 use Rattle.lines.proofs.Page.{nothing}
-use Rattle.listing.proofs.Lines.{message-within, message-words, message-packets}
 use borrow.Author.Needs.{needs}
+use Rattle.walking.proofs.Stands.{message-within, message-words, message-packets}
 use Rattle.listing.proofs.answers.put_answer.Statement.{statement}
 use Rattle.listing.proofs.answers.put_answer.Tie as tie
 
