@@ -17,14 +17,14 @@ use Rattle.kinds.proofs.Rows.{status-kind}
 use Rattle.kinds.proofs.Fields.{same-true}
 
 -- ---- a test that each field of a table passes, a field of the table passes
-unfoldable pub all : (Field → Bool) → List (Slot Part) → Bool
-all p [] = true
-all p (s ∷ ss) = both (p (s .key .field)) (all p ss)
+unfoldable pub eachField : (Field → Bool) → List (Slot Part) → Bool
+eachField p [] = true
+eachField p (s ∷ ss) = both (p (s .key .field)) (eachField p ss)
 
-pub passes : (p : Field → Bool) (t : List (Slot Part)) (f : Field) → all p t ≡ true → none (slotsOf f t) ≡ false → p f ≡ true
-unfolding all those
-passes p [] f h e = true-false e
-passes p (s ∷ ss) f h e = go (same (s .key .field) f) refl e (passes p ss f (both-right _ _ h))
+pub each-field : (p : Field → Bool) (t : List (Slot Part)) (f : Field) → eachField p t ≡ true → none (slotsOf f t) ≡ false → p f ≡ true
+unfolding eachField those
+each-field p [] f h e = true-false e
+each-field p (s ∷ ss) f h e = go (same (s .key .field) f) refl e (each-field p ss f (both-right _ _ h))
   where
     go : (b : Bool) → same (s .key .field) f ≡ b → none (pick b (s ∷ slotsOf f ss) (slotsOf f ss)) ≡ false → (none (slotsOf f ss) ≡ false → p f ≡ true) → p f ≡ true
     go true q e′ ih = ap p (sym (same-true _ _ q)) ∙ both-left _ _ h
@@ -35,8 +35,8 @@ home : List Kind → Field → ℕ
 home [] f = 0
 home (k ∷ ks) f = pick (none (slotsOf f (layout k .fields))) (home ks f) (layout k .status)
 
-rows-home : (k : Kind) → all (λ f. eqb (home kinds f) (layout k .status)) (layout k .fields) ≡ true
-unfolding all home layout those same decided both
+rows-home : (k : Kind) → eachField (λ f. eqb (home kinds f) (layout k .status)) (layout k .fields) ≡ true
+unfolding eachField home layout those same decided both
 rows-home K.EndpointDiscovery = refl
 rows-home K.EndpointInfo = refl
 rows-home K.DeviceIdentity = refl
@@ -46,7 +46,7 @@ rows-home K.FunctionBlockInfo = refl
 rows-home K.FunctionBlockName = refl
 
 home-is : (k : Kind) (f : Field) → none (slotsOf f (layout k .fields)) ≡ false → home kinds f ≡ layout k .status
-home-is k f h = eqb-true _ _ (passes (λ g. eqb (home kinds g) (layout k .status)) (layout k .fields) f (rows-home k) h)
+home-is k f h = eqb-true _ _ (each-field (λ g. eqb (home kinds g) (layout k .status)) (layout k .fields) f (rows-home k) h)
 
 -- a status is of one kind
 pub one-status : (j k : Kind) → layout j .status ≡ layout k .status → j ≡ k

@@ -17,7 +17,7 @@ use Rattle.kinds.specs.Choices.{hintCode, hintOf, portCode, portOf, directionCo
 use Rattle.kinds.specs.Fields.{Text, Field, Setting, same, decided, fieldIn, valueIn, bit, start}
 use Rattle.kinds.specs.Layout.{layout}
 use Rattle.kinds.proofs.Codes.{bit-flag, hint-back, port-back, direction-back}
-use Rattle.kinds.proofs.Homes.{all, passes}
+use Rattle.kinds.proofs.Homes.{eachField, each-field}
 use Rattle.kinds.proofs.Fields.{same-true, same-refl}
 use Rattle.records.specs.declared.message.Message.{Message}
 use Rattle.records.specs.declared.message.Message.the-variants as M
@@ -108,8 +108,8 @@ values-kept : (k : Kind) (n : ℕ) (v : Field → List ℕ) (g : Field) → valu
 values-kept k n v g = ap (λ (xs : List Valued). lookup xs g) (fields-kept k n v) ∙ lookup-kept (λ f. again f (v f)) (inOrder k) g
 
 -- a field that the table has is one of the record
-rows-in : (k : Kind) → all (λ f. isIn f (inOrder k)) (layout k .fields) ≡ true
-unfolding all isIn layout each firstPart same decided both
+rows-in : (k : Kind) → eachField (λ f. isIn f (inOrder k)) (layout k .fields) ≡ true
+unfolding eachField isIn layout each firstPart same decided both
 rows-in K.EndpointDiscovery = refl
 rows-in K.EndpointInfo = refl
 rows-in K.DeviceIdentity = refl
@@ -134,7 +134,7 @@ module _ (s : Setting) (m : Message) where
   unfolding newRecord
   set-reads e =
       let a = accepted s m e in
-      rw (a .1) (values-kept (kindIn m) (packetsIn m) (with (fieldIn s) (valueIn s) (valuesOf m)) (fieldIn s) ∙ rw (passes (λ f. isIn f (inOrder (kindIn m))) (layout (kindIn m) .fields) (fieldIn s) (rows-in (kindIn m)) (a .0), same-refl (fieldIn s)) (again-all s))
+      rw (a .1) (values-kept (kindIn m) (packetsIn m) (with (fieldIn s) (valueIn s) (valuesOf m)) (fieldIn s) ∙ rw (each-field (λ f. isIn f (inOrder (kindIn m))) (layout (kindIn m) .fields) (fieldIn s) (rows-in (kindIn m)) (a .0), same-refl (fieldIn s)) (again-all s))
 
   pub set-keeps : (g : Field) → same g (fieldIn s) ≡ false → valuesOf (setRecord s m .message) g ≡ valuesOf m g
   unfolding newRecord

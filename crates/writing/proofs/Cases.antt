@@ -31,21 +31,21 @@ pub record Fixed (m : Message) : Type 0 where
   pub body : layout (kindIn m) .body ≡ fixed
   pub narrow : inWord (layout (kindIn m) .fields) ≡ true
 
-pub discovery : (e : EndpointDiscovery) → Fixed (M.EndpointDiscovery e)
+pub discovery-fixed : (e : EndpointDiscovery) → Fixed (M.EndpointDiscovery e)
 unfolding layout inWord both
-discovery e = record { body = refl; narrow = refl }
+discovery-fixed e = record { body = refl; narrow = refl }
 
-pub info : (e : EndpointInfo) → Fixed (M.EndpointInfo e)
+pub info-fixed : (e : EndpointInfo) → Fixed (M.EndpointInfo e)
 unfolding layout inWord both
-info e = record { body = refl; narrow = refl }
+info-fixed e = record { body = refl; narrow = refl }
 
-pub identity : (e : DeviceIdentity) → Fixed (M.DeviceIdentity e)
+pub identity-fixed : (e : DeviceIdentity) → Fixed (M.DeviceIdentity e)
 unfolding layout inWord both
-identity e = record { body = refl; narrow = refl }
+identity-fixed e = record { body = refl; narrow = refl }
 
-pub block : (e : FunctionBlockInfo) → Fixed (M.FunctionBlockInfo e)
+pub block-fixed : (e : FunctionBlockInfo) → Fixed (M.FunctionBlockInfo e)
 unfolding layout inWord both
-block e = record { body = refl; narrow = refl }
+block-fixed e = record { body = refl; narrow = refl }
 
 module _ {m : Message} (k : Fixed m) (ws : List ℕ) where
   pub write-large : fits (layout (kindIn m) .fields) (parts (valuesOf m)) ≡ false → writeOn m ws ≡ unchanged NumberTooLarge ws

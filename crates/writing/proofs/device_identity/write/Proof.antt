@@ -1,7 +1,7 @@
 use mathlib.Core.Path.{sym, _∙_}
 use borrow.Author.Tests.{not-true, not-false}
 use Rattle.kinds.specs.Layout.{layout}
-use Rattle.writing.proofs.Cases.{identity, write-large, write-short, write-done}
+use Rattle.writing.proofs.Cases.{identity-fixed, write-large, write-short, write-done}
 use borrow.Author.Needs.{needs}
 use Rattle.standard.proofs.Left.{said}
 use Rattle.writing.proofs.device_identity.write.Statement.{statement}
@@ -12,11 +12,11 @@ all-septets-requires c κs = search needs
 
 returns : tie.Need-returns
 unfolding layout
-returns c = said (write-large (identity _) _ (sym (c .before .all-septets .ensures) ∙ not-true _ (c .if1 .taken)))
+returns c = said (write-large (identity-fixed _) _ (sym (c .before .all-septets .ensures) ∙ not-true _ (c .if1 .taken)))
 
 returns-2 : tie.Need-returns-2
 unfolding layout
-returns-2 c = said (write-short (identity _) _ (sym (c .before .before .all-septets .ensures) ∙ not-false _ (c .before .if1 .left)) (c .if2 .taken))
+returns-2 c = said (write-short (identity-fixed _) _ (sym (c .before .before .all-septets .ensures) ∙ not-false _ (c .before .if1 .left)) (c .if2 .taken))
 
 put-requires : tie.Need-put-requires
 put-requires c κs = search needs
@@ -26,7 +26,7 @@ same-length c = search needs
 
 returns-3 : tie.Need-returns-3
 unfolding layout
-returns-3 c = rw (c .before .before .put .ensures) (said (write-done (identity _) _ (sym (c .before .before .before .before .before .before .all-septets .ensures) ∙ not-false _ (c .before .before .before .before .before .if1 .left)) (c .before .before .before .before .if2 .left)))
+returns-3 c = rw (c .before .before .put .ensures) (said (write-done (identity-fixed _) _ (sym (c .before .before .before .before .before .before .all-septets .ensures) ∙ not-false _ (c .before .before .before .before .before .if1 .left)) (c .before .before .before .before .if2 .left)))
 
 pub write-spec : {M : Type 1} → statement M
 write-spec =

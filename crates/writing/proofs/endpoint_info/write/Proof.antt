@@ -1,6 +1,6 @@
 use native.Mathlib.Omega.{arith}
 use Rattle.kinds.specs.Layout.{layout}
-use Rattle.writing.proofs.Cases.{info, write-large, write-short, write-done}
+use Rattle.writing.proofs.Cases.{info-fixed, write-large, write-short, write-done}
 use Rattle.records.proofs.Fitting.{info-small, info-large}
 use borrow.Author.Needs.{needs}
 use Rattle.standard.proofs.Left.{said}
@@ -9,11 +9,11 @@ use Rattle.writing.proofs.endpoint_info.write.Tie as tie
 
 returns : tie.Need-returns
 unfolding layout
-returns c = said (write-large (info _) _ (info-large _ (omega (arith, c .before .before .before .good .1)) (omega (arith, c .before .before .before .good .1)) (c .if1 .taken)))
+returns c = said (write-large (info-fixed _) _ (info-large _ (omega (arith, c .before .before .before .good .1)) (omega (arith, c .before .before .before .good .1)) (c .if1 .taken)))
 
 returns-2 : tie.Need-returns-2
 unfolding layout
-returns-2 c = said (write-short (info _) _ (info-small _ (omega (arith, c .before .before .before .before .good .1)) (omega (arith, c .before .before .before .before .good .1)) (c .before .if1 .left)) (c .if2 .taken))
+returns-2 c = said (write-short (info-fixed _) _ (info-small _ (omega (arith, c .before .before .before .before .good .1)) (omega (arith, c .before .before .before .before .good .1)) (c .before .if1 .left)) (c .if2 .taken))
 
 put-requires : tie.Need-put-requires
 put-requires c κs = search needs
@@ -23,7 +23,7 @@ same-length c = search needs
 
 returns-3 : tie.Need-returns-3
 unfolding layout
-returns-3 c = rw (c .before .before .put .ensures) (said (write-done (info _) _ (info-small _ (omega (arith, c .before .before .before .before .before .before .before .before .good .1)) (omega (arith, c .before .before .before .before .before .before .before .before .good .1)) (c .before .before .before .before .before .if1 .left)) (c .before .before .before .before .if2 .left)))
+returns-3 c = rw (c .before .before .put .ensures) (said (write-done (info-fixed _) _ (info-small _ (omega (arith, c .before .before .before .before .before .before .before .before .good .1)) (omega (arith, c .before .before .before .before .before .before .before .before .good .1)) (c .before .before .before .before .before .if1 .left)) (c .before .before .before .before .if2 .left)))
 
 pub write-spec : {M : Type 1} → statement M
 write-spec = tie.close (tie.spec returns returns-2 put-requires same-length returns-3)

@@ -1,6 +1,6 @@
 use native.Mathlib.Omega.{arith}
 use Rattle.kinds.specs.Layout.{layout}
-use Rattle.writing.proofs.Cases.{block, write-large, write-short, write-done}
+use Rattle.writing.proofs.Cases.{block-fixed, write-large, write-short, write-done}
 use Rattle.records.proofs.Fitting.{block-small, block-number-large, block-group-large}
 use borrow.Author.Needs.{needs}
 use Rattle.standard.proofs.Left.{said}
@@ -9,15 +9,15 @@ use Rattle.writing.proofs.function_block_info.write.Tie as tie
 
 returns : tie.Need-returns
 unfolding layout
-returns c = said (write-large (block _) _ (block-number-large _ (omega (arith, c .before .before .before .good .1)) (omega (arith, c .before .before .before .good .1)) (omega (arith, c .before .before .before .good .1)) (c .if1 .taken)))
+returns c = said (write-large (block-fixed _) _ (block-number-large _ (omega (arith, c .before .before .before .good .1)) (omega (arith, c .before .before .before .good .1)) (omega (arith, c .before .before .before .good .1)) (c .if1 .taken)))
 
 returns-2 : tie.Need-returns-2
 unfolding layout
-returns-2 c = said (write-large (block _) _ (block-group-large _ (omega (arith, c .before .before .before .before .before .good .1)) (omega (arith, c .before .before .before .before .before .good .1)) (omega (arith, c .before .before .before .before .before .good .1)) (c .if2 .taken)))
+returns-2 c = said (write-large (block-fixed _) _ (block-group-large _ (omega (arith, c .before .before .before .before .before .good .1)) (omega (arith, c .before .before .before .before .before .good .1)) (omega (arith, c .before .before .before .before .before .good .1)) (c .if2 .taken)))
 
 returns-3 : tie.Need-returns-3
 unfolding layout
-returns-3 c = said (write-short (block _) _ (block-small _ (omega (arith, c .before .before .before .before .before .before .good .1)) (omega (arith, c .before .before .before .before .before .before .good .1)) (omega (arith, c .before .before .before .before .before .before .good .1)) (c .before .before .before .if1 .left) (c .before .if2 .left)) (c .if3 .taken))
+returns-3 c = said (write-short (block-fixed _) _ (block-small _ (omega (arith, c .before .before .before .before .before .before .good .1)) (omega (arith, c .before .before .before .before .before .before .good .1)) (omega (arith, c .before .before .before .before .before .before .good .1)) (c .before .before .before .if1 .left) (c .before .if2 .left)) (c .if3 .taken))
 
 put-requires : tie.Need-put-requires
 put-requires c κs = search needs
@@ -27,7 +27,7 @@ same-length c = search needs
 
 returns-4 : tie.Need-returns-4
 unfolding layout
-returns-4 c = rw (c .before .before .put .ensures) (said (write-done (block _) _ (block-small _ (omega (arith, c .before .before .before .before .before .before .before .before .before .before .good .1)) (omega (arith, c .before .before .before .before .before .before .before .before .before .before .good .1)) (omega (arith, c .before .before .before .before .before .before .before .before .before .before .good .1)) (c .before .before .before .before .before .before .before .if1 .left) (c .before .before .before .before .before .if2 .left)) (c .before .before .before .before .if3 .left)))
+returns-4 c = rw (c .before .before .put .ensures) (said (write-done (block-fixed _) _ (block-small _ (omega (arith, c .before .before .before .before .before .before .before .before .before .before .good .1)) (omega (arith, c .before .before .before .before .before .before .before .before .before .before .good .1)) (omega (arith, c .before .before .before .before .before .before .before .before .before .before .good .1)) (c .before .before .before .before .before .before .before .if1 .left) (c .before .before .before .before .before .if2 .left)) (c .before .before .before .before .if3 .left)))
 
 pub write-spec : {M : Type 1} → statement M
 write-spec = tie.close (tie.spec returns returns-2 returns-3 put-requires same-length returns-4)
