@@ -1,4 +1,4 @@
--- The lines of a walk: where a message's words are, and what is left to list at each position. Closed by the laws of the walk.
+-- What is left to list at each position of a walk. Closed by the laws of the walk, visit by visit.
 use Prim.Native.Nat.{ℕ, zero, suc, _+_, _-_, _≤_, _<_}
 use mathlib.Core.Path.{_≡_}
 use mathlib.Core.List.{List, [], _++_}
