@@ -1,52 +1,60 @@
--- The octets of a text packet as the code finds them: an octet of the head, and the place of a text byte. Closed by arithmetic on the places.
-use Prim.Native.Nat.{ℕ, _+_, _-_, _*_, _<_, _≤_}
+-- The words of a text packet as the code makes them: the head, with the text bytes that reach into its word, and the words after it. Closed by arithmetic on the places.
+use Prim.Native.Nat.{ℕ, _+_, _-_, _*_, _/_, _^_, _<_, _≤_}
 use mathlib.Core.Path.{_≡_, sym, ap, _∙_}
 use mathlib.Core.List.{List}
 use native.Mathlib.Omega.{arith}
-use native.Mathlib.Nat.{mul-le-mul}
-use lib.ListN.{length, getD, List·getD-eq-default}
-use Rattle.bit_ops.specs.Parts.{partIn}
-use Rattle.text.specs.Octets.{octetOf, due}
-use Rattle.text.specs.Four.{joinedAt}
-use Rattle.text.specs.Written.{headOctet, octetAt, wordIn}
-use Rattle.text.proofs.Fours.{joined-in}
+use native.Mathlib.Nat.{mul-le-mul, add-zero}
+use lib.ListN.{getD}
+use Rattle.laws.specs.Bits.{wordOf}
+use Rattle.text.specs.Octets.{due}
+use Rattle.text.specs.Written.{octetAt, wordIn}
 use Rattle.text.proofs.Written.{octet-head, octet-text}
-
--- octet j of a word, and 0 past its four, is the head's
-head-part : (w j : ℕ) → partIn 8 8 w j ≡ headOctet w j
-unfolding partIn headOctet octetOf
-head-part w j = let e : 32 - 8 * (j + 1) ≡ 24 - j * 8 = omega arith in rw e
+use Rattle.text.proofs.Rewritten.{head-zero}
+use Rattle.text.proofs.First.{octets-of, word-2, word-3, word-4}
 
 -- a text byte's number is small
 pub product : {p cap : ℕ} → p < 64 → cap ≤ 14 → p * cap ≤ 882
 product {p} {cap} hp hc = let h : p ≤ 63 = omega arith in mul-le-mul h hc
 
-module _ (text : List ℕ) (head : ℕ → ℕ) (offset n p j : ℕ) (room : offset < 14) where
+module _ (text : List ℕ) (head : ℕ → ℕ) (offset n p : ℕ) (room : offset < 14) where
   start : 16 - (14 - offset) ≡ 2 + offset
   start = omega arith
 
-  pub before-text : (w r : ℕ) → j < 2 + offset → w ≡ head (due n p) → r ≡ partIn 8 8 w j → r ≡ octetAt text head (14 - offset) n p j
-  before-text w r h e q =
-      q ∙ head-part w j ∙ ap (λ (x : ℕ). headOctet x j) e ∙ sym (octet-head text head (14 - offset) n p j (rw start h))
+  pub in-text : (j : ℕ) → 2 + offset ≤ j → getD text (p * (14 - offset) + (j - (2 + offset))) 0 ≡ octetAt text head (14 - offset) n p j
+  in-text j h = sym (octet-text text head (14 - offset) n p j (rw start h) ∙ ap (λ (x : ℕ). getD text (p * (14 - offset) + (j - x)) 0) start)
 
-  pub in-text : 2 + offset ≤ j → getD text (p * (14 - offset) + (j - (2 + offset))) 0 ≡ octetAt text head (14 - offset) n p j
-  in-text h = sym (octet-text text head (14 - offset) n p j (rw start h) ∙ ap (λ (x : ℕ). getD text (p * (14 - offset) + (j - x)) 0) start)
+  -- no text byte stands there, nor the head's word
+  pub before-text : (j : ℕ) → j < 2 + offset → 4 ≤ j → 0 ≡ octetAt text head (14 - offset) n p j
+  before-text j h l = sym (octet-head text head (14 - offset) n p j (rw start h) ∙ head-zero _ j l)
 
-  pub past-text : 2 + offset ≤ j → length text ≤ p * (14 - offset) + (j - (2 + offset)) → 0 ≡ octetAt text head (14 - offset) n p j
-  past-text h l = sym (List·getD-eq-default text 0 l) ∙ in-text h
+  -- a word after the head's whose octets are all text
+  shifted : (a b s i : ℕ) → s ≤ b → a + (b - s) + i ≡ a + (b + i - s)
+  shifted a b s i h = omega arith
 
--- a word that lies inside the text is four of its bytes
-shifted : (a b s i : ℕ) → s ≤ b → a + (b - s) + i ≡ a + (b + i - s)
-shifted a b s i h = omega arith
+  module _ (q : ℕ) (h : 2 + offset ≤ q * 4) where
+    byte-of : (i : ℕ) → getD text (p * (14 - offset) + (q * 4 - (2 + offset)) + i) 0 ≡ octetAt text head (14 - offset) n p (q * 4 + i)
+    byte-of i = ap (λ (x : ℕ). getD text x 0) (shifted (p * (14 - offset)) (q * 4) (2 + offset) i h) ∙ in-text (q * 4 + i) (omega arith)
 
-module _ (text : List ℕ) (head : ℕ → ℕ) (offset n p q : ℕ) (room : offset < 14) (h : 2 + offset ≤ q * 4) where
-  byte-in : (i : ℕ) → getD text (p * (14 - offset) + (q * 4 - (2 + offset)) + i) 0 ≡ octetAt text head (14 - offset) n p (q * 4 + i)
-  byte-in i =
-      ap (λ (x : ℕ). getD text x 0) (shifted (p * (14 - offset)) (q * 4) (2 + offset) i h)
-      ∙ in-text text head offset n p (q * 4 + i) room (omega arith)
+    pub word-of-text : (at : ℕ) → at ≡ p * (14 - offset) + (q * 4 - (2 + offset)) → wordOf (getD text at 0) (getD text (at + 1) 0) (getD text (at + 2) 0) (getD text (at + 3) 0) ≡ wordIn text head (14 - offset) n p q
+    unfolding wordIn
+    word-of-text at e = rw (e, in-text (q * 4) h, byte-of 1, byte-of 2, byte-of 3)
 
-  pub inside-text : p * (14 - offset) + (q * 4 - (2 + offset)) + 4 ≤ length text → joinedAt text (p * (14 - offset) + (q * 4 - (2 + offset))) ≡ wordIn text head (14 - offset) n p q
-  unfolding wordIn
-  inside-text l =
-      joined-in text (p * (14 - offset) + (q * 4 - (2 + offset))) l
-      ∙ rw (in-text text head offset n p (q * 4) room h, byte-in 1, byte-in 2, byte-in 3)
+-- ---- the first word
+high-two : (a b c d : ℕ) → c < 256 → d < 256 → wordOf a b c d / 0x10000 ≡ a * 256 + b
+high-two a b c d hc hd = omega arith
+
+module _ (text : List ℕ) (head : ℕ → ℕ) (offset n p h : ℕ) (e : h ≡ head (due n p)) (small : h < 2 ^ 32) where
+  -- the first two of four bytes
+  pub two-bytes : (w : ℕ) → ((k : ℕ) → getD text k 0 < 256) → offset ≡ 0 → w ≡ wordOf (getD text (p * (14 - offset)) 0) (getD text (p * (14 - offset) + 1) 0) (getD text (p * (14 - offset) + 2) 0) (getD text (p * (14 - offset) + 3) 0) → h / 0x10000 * 0x10000 + w / 0x10000 ≡ wordIn text head (14 - offset) n p 0
+  two-bytes w bytes z ew =
+      let o = octets-of h small .2 (getD text (p * 14) 0) (getD text (p * 14 + 1) 0) in
+      let q = high-two (getD text (p * 14) 0) (getD text (p * 14 + 1) 0) (getD text (p * 14 + 2) 0) (getD text (p * 14 + 3) 0) (bytes (p * 14 + 2)) (bytes (p * 14 + 3)) in
+      rw (ew, z, word-2 text head n p, ← e, add-zero, q) (omega arith)
+
+  pub one-byte : (d : ℕ) → offset ≡ 1 → d ≡ getD text (p * (14 - offset)) 0 → h / 0x100 * 0x100 + d ≡ wordIn text head (14 - offset) n p 0
+  one-byte d z ed =
+      let o = octets-of h small .1 d in
+      rw (z, word-3 text head n p, ← e, add-zero, ← (rw z at ed)) (omega arith)
+
+  pub no-byte : 2 ≤ offset → h ≡ wordIn text head (14 - offset) n p 0
+  no-byte l = sym (word-4 text head n p (14 - offset) (omega arith) ∙ rw (← e) (octets-of h small .0))

@@ -6,7 +6,8 @@ use lib.ListN.{length, getD, set}
 use lib.Dec.{ltb, leb}
 use Rattle.laws.specs.Pick.{pick, both}
 use Rattle.laws.specs.Bits.{putField}
-use Rattle.text.specs.Written.{written, eachFirst}
+use Rattle.laws.specs.Lists.{upTo}
+use Rattle.text.specs.Written.{wholeWords, written, eachFirst}
 
 -- a word with a number in a field; as it was where it has no such bits, or where the number is too large for them
 unfoldable pub putSafe : ℕ → ℕ → ℕ → ℕ → ℕ
@@ -33,6 +34,14 @@ areSeptets (x ∷ xs) = both (ltb x 128) (areSeptets xs)
 -- a number in the first word of each of n packets, where the buffer has so many
 unfoldable pub putEach : ℕ → ℕ → ℕ → ℕ → List ℕ → List ℕ
 putEach n at span v ws = pick (ltb (length ws / 4) n) ws (eachFirst n (λ w. putSafe w at span v) ws)
+
+-- f 0, .., f 3 in the four words from word k on
+abbrev pub setFour : (ℕ → ℕ) → ℕ → List ℕ → List ℕ
+setFour f k ws = set (set (set (set ws k (f 0)) (k + 1) (f 1)) (k + 2) (f 2)) (k + 3) (f 3)
+
+-- every word from word `from` on zero, up to the last whole packet's end
+unfoldable pub clearFrom : ℕ → List ℕ → List ℕ
+clearFrom from ws = upTo (wholeWords ws) (λ k. pick (ltb k from) (getD ws k 0) 0) ws
 
 -- the head of a text packet by its format: one word, with the format in its place
 abbrev pub formatted : ℕ → ℕ → ℕ

@@ -1,26 +1,28 @@
-// Every whole packet of a buffer made zero, with a head in the first.
+// Whole packets of a buffer made zero: all of them, with a head in the first, or those from a word on.
 ghost use mathlib.Core.Path.{_≡_};
-ghost use lib.Dec.{eqb};
-ghost use Rattle.laws.specs.Pick.{pick};
-ghost use Rattle.text.specs.Written.{blank};
+ghost use Prim.Native.Nat.{_≤_};
+ghost use Rattle.text.specs.Written.{wholeWords, blank};
+ghost use Rattle.filling.specs.Filling.{clearFrom};
 
-// Word k of the buffer.
-fn blank_word(head: u32, k: usize) -> u32
-    ensures { λ r. ⌜ r ≡ pick (eqb k 0) head 0 ⌝ }
+// Every word from word `from` on, up to the last whole packet's end.
+pub(crate) fn clear_from(words: &mut [u32], from: usize)
+    requires { ⌜ from ≤ wholeWords (now words) ⌝ }
+    ensures { λ _. ⌜ now (words .exit) ≡ clearFrom from (now (words .entry)) ⌝ }
 {
-    if k == 0 {
-        return head;
+    let end = words.len() / 4 * 4;
+    let mut k = from;
+    while k < end {
+        words[k] = 0;
+        k += 1;
     }
-    0
 }
 
 pub fn clear(words: &mut [u32], head: u32)
     ensures { λ _. ⌜ now (words .exit) ≡ blank head (now (words .entry)) ⌝ }
 {
-    let end = words.len() / 4 * 4;
-    let mut k = 0;
-    while k < end {
-        words[k] = blank_word(head, k);
-        k += 1;
+    if words.len() < 4 {
+        return;
     }
+    words[0] = head;
+    clear_from(words, 1);
 }

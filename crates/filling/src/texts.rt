@@ -1,13 +1,17 @@
 // Text written into every whole packet of a buffer: heads, then bytes, and zeros where the text has ended.
 ghost use mathlib.Core.Path.{_≡_};
-ghost use Prim.Native.Nat.{_-_, _<_, _≤_};
+ghost use Prim.Native.Nat.{_+_, _-_, _*_, _<_, _≤_};
+ghost use lib.ListN.{length, getD};
+ghost use Rattle.laws.specs.Bits.{wordOf};
+ghost use Rattle.laws.specs.Lists.{upTo};
 ghost use Rattle.text.specs.Octets.{due};
 ghost use Rattle.text.specs.Written.{octetAt, wordIn, wordNew};
-ghost use Rattle.filling.specs.Filling.{formatted, fillText};
+ghost use Rattle.filling.specs.Filling.{setFour, formatted, fillText};
 use crate::fields::with_field;
+use crate::packets::clear_from;
 use counts::PacketNumber;
-use reading::heads::due_format;
 use text::joined::joined;
+use text::packets::due_format;
 
 // The head of packet p of n.
 fn head_of(head: u32, n: usize, p: usize) -> u32
@@ -16,59 +20,98 @@ fn head_of(head: u32, n: usize, p: usize) -> u32
     with_field(head, 26, 2, due_format(n, p) as u32)
 }
 
-// Octet j, of sixteen, of packet p of n.
-fn octet_at(text: &[u8], offset: usize, head: u32, n: usize, p: usize, j: usize) -> u8
-    requires { ⌜ (offset < 14) × (p < 64) × (j < 16) ⌝ }
-    ensures { λ r. ⌜ r ≡ octetAt (now (text .entry)) (formatted head) (14 - offset) n p j ⌝ }
+// Byte i of the text, and 0 past its end.
+fn byte_at(text: &[u8], i: usize) -> u32
+    ensures { λ r. ⌜ r ≡ getD (now (text .entry)) i 0 ⌝ }
+    ensures small { λ r. ⌜ r < 256 ⌝ }
 {
-    let start = 2 + offset;
-    if j < start {
-        return bit_ops::octet(head_of(head, n, p), j);
-    }
-    let at = p * (14 - offset) + (j - start);
-    if at < text.len() {
-        return text[at];
+    if i < text.len() {
+        return text[i] as u32;
     }
     0
 }
 
-// Word q, of four, of packet p of n, octet by octet.
-fn mixed_word(text: &[u8], offset: usize, head: u32, n: usize, p: usize, q: usize) -> u32
-    requires { ⌜ (offset < 14) × (p < 64) × (q < 4) ⌝ }
-    ensures { λ r. ⌜ r ≡ wordIn (now (text .entry)) (formatted head) (14 - offset) n p q ⌝ }
+// The four bytes from byte i on, at once where they are all there.
+fn four_bytes(text: &[u8], i: usize) -> u32
+    requires { ⌜ i < 1000 ⌝ }
+    ensures { λ r. ⌜ r ≡ wordOf (getD (now (text .entry)) i 0) (getD (now (text .entry)) (i + 1) 0) (getD (now (text .entry)) (i + 2) 0) (getD (now (text .entry)) (i + 3) 0) ⌝ }
 {
-    let j = q * 4;
-    let a = octet_at(text, offset, head, n, p, j) as u32;
-    let b = octet_at(text, offset, head, n, p, j + 1) as u32;
-    let c = octet_at(text, offset, head, n, p, j + 2) as u32;
-    let d = octet_at(text, offset, head, n, p, j + 3) as u32;
+    if i + 4 <= text.len() {
+        return joined(text, i);
+    }
+    let a = byte_at(text, i);
+    let b = byte_at(text, i + 1);
+    let c = byte_at(text, i + 2);
+    let d = byte_at(text, i + 3);
     a * 0x100_0000 + b * 0x1_0000 + c * 0x100 + d
 }
 
-// The same, four bytes at once where the word lies inside the text.
-fn packet_word(text: &[u8], offset: usize, head: u32, n: usize, p: usize, q: usize) -> u32
-    requires { ⌜ (offset < 14) × (p < 64) × (q < 4) ⌝ }
-    ensures { λ r. ⌜ r ≡ wordIn (now (text .entry)) (formatted head) (14 - offset) n p q ⌝ }
+// Word 0 of packet p of n.
+fn first_word(text: &[u8], offset: usize, head: u32, n: usize, p: usize) -> u32
+    requires { ⌜ (offset < 14) × (p < 64) ⌝ }
+    ensures { λ r. ⌜ r ≡ wordIn (now (text .entry)) (formatted head) (14 - offset) n p 0 ⌝ }
 {
-    if q * 4 < 2 + offset {
-        return mixed_word(text, offset, head, n, p, q);
+    let h = head_of(head, n, p);
+    let at = p * (14 - offset);
+    if offset == 0 {
+        return h / 0x1_0000 * 0x1_0000 + four_bytes(text, at) / 0x1_0000;
     }
-    let at = p * (14 - offset) + (q * 4 - (2 + offset));
-    if text.len() < at + 4 {
-        return mixed_word(text, offset, head, n, p, q);
+    if offset == 1 {
+        return h / 0x100 * 0x100 + byte_at(text, at);
     }
-    joined(text, at)
+    h
 }
 
-// Word k of the buffer: n packets of text, and zeros after them.
-fn word_at(text: &[u8], offset: usize, head: u32, n: usize, k: usize) -> u32
-    requires { ⌜ (offset < 14) × (n ≤ 64) ⌝ }
-    ensures { λ r. ⌜ r ≡ wordNew (now (text .entry)) (formatted head) (14 - offset) n k ⌝ }
+// Octet j, of sixteen, of packet p, past its first word: no head stands there.
+fn octet_at(text: &[u8], offset: usize, p: usize, j: usize) -> u32
+    requires { ⌜ (offset < 14) × (p < 64) × (4 ≤ j) × (j < 16) ⌝ }
+    ensures { λ r. ⌜ r ≡ octetAt (now (text .entry)) (λ f. 0) (14 - offset) 0 p j ⌝ }
+    ensures small { λ r. ⌜ r < 256 ⌝ }
 {
-    if n * 4 <= k {
+    if j < 2 + offset {
         return 0;
     }
-    packet_word(text, offset, head, n, k / 4, k % 4)
+    byte_at(text, p * (14 - offset) + (j - (2 + offset)))
+}
+
+// Word q, 1 to 3, of packet p, octet by octet where what stands before the text reaches into it.
+fn later_word(text: &[u8], offset: usize, p: usize, q: usize) -> u32
+    requires { ⌜ (offset < 14) × (p < 64) × (0 < q) × (q < 4) ⌝ }
+    ensures { λ r. ⌜ r ≡ wordIn (now (text .entry)) (λ f. 0) (14 - offset) 0 p q ⌝ }
+{
+    let j = q * 4;
+    if 2 + offset <= j {
+        return four_bytes(text, p * (14 - offset) + (j - (2 + offset)));
+    }
+    let a = octet_at(text, offset, p, j);
+    let b = octet_at(text, offset, p, j + 1);
+    let c = octet_at(text, offset, p, j + 2);
+    let d = octet_at(text, offset, p, j + 3);
+    a * 0x100_0000 + b * 0x1_0000 + c * 0x100 + d
+}
+
+// The four words of packet p of n.
+fn fill_packet(words: &mut [u32], text: &[u8], offset: usize, head: u32, n: usize, p: usize)
+    requires { ⌜ (offset < 14) × (p < 64) × (p * 4 + 4 ≤ length (now words)) ⌝ }
+    ensures { λ _. ⌜ now (words .exit) ≡ setFour (wordIn (now (text .entry)) (formatted head) (14 - offset) n p) (p * 4) (now (words .entry)) ⌝ }
+{
+    let k = p * 4;
+    words[k] = first_word(text, offset, head, n, p);
+    words[k + 1] = later_word(text, offset, p, 1);
+    words[k + 2] = later_word(text, offset, p, 2);
+    words[k + 3] = later_word(text, offset, p, 3);
+}
+
+// The first m of n packets.
+fn fill_packets(words: &mut [u32], text: &[u8], offset: usize, head: u32, n: usize, m: usize)
+    requires { ⌜ (offset < 14) × (n ≤ 64) × (m ≤ n) × (m * 4 ≤ length (now words)) ⌝ }
+    ensures { λ _. ⌜ now (words .exit) ≡ upTo (m * 4) (wordNew (now (text .entry)) (formatted head) (14 - offset) n) (now (words .entry)) ⌝ }
+{
+    let mut p = 0;
+    while p < m {
+        fill_packet(words, text, offset, head, n, p);
+        p += 1;
+    }
 }
 
 // The text in some packets, from octet 2 + offset of each on, and zeros in every whole packet after them.
@@ -82,10 +125,11 @@ pub fn fill_text(words: &mut [u32], text: &[u8], offset: usize, head: u32, packe
     if 64 < n {
         return;
     }
-    let end = words.len() / 4 * 4;
-    let mut k = 0;
-    while k < end {
-        words[k] = word_at(text, offset, head, n, k);
-        k += 1;
+    let whole = words.len() / 4;
+    if whole < n {
+        fill_packets(words, text, offset, head, n, whole);
+        return;
     }
+    fill_packets(words, text, offset, head, n, n);
+    clear_from(words, n * 4);
 }

@@ -2,7 +2,6 @@
 ghost use mathlib.Core.Path.{_≡_};
 ghost use Rattle.kinds.specs.Layout.{kindOf};
 ghost use Rattle.standard.specs.Heads.{typeOf, formatOf, statusOf};
-ghost use Rattle.text.specs.Octets.{due};
 use kinds::kind::Kind;
 use kinds::kind::Known;
 
@@ -39,20 +38,4 @@ pub fn kind_of(status: u32) -> Known
         0x12 => Known::Is(Kind::FunctionBlockName),
         _ => Known::Unknown,
     }
-}
-
-// The format due of packet `p` of `n`.
-pub fn due_format(n: usize, p: usize) -> u8
-    ensures { λ r. ⌜ r ≡ due n p ⌝ }
-{
-    if n <= 1 {
-        return 0;
-    }
-    if p == 0 {
-        return 1;
-    }
-    if p < n - 1 {
-        return 2;
-    }
-    3
 }

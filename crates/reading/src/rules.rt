@@ -3,11 +3,11 @@ ghost use mathlib.Core.Path.{_≡_};
 ghost use Rattle.laws.specs.First.{first};
 ghost use Rattle.standard.specs.Heads.{packetsOf};
 ghost use Rattle.reading.specs.Rules.{breaksOf, brokenBy};
-use crate::heads::due_format;
 use crate::heads::format_of;
 use crate::heads::status_of;
 use crate::heads::type_of;
 use counts::PacketNumber;
+use text::packets::due_format;
 
 pub enum Rule {
     Type,

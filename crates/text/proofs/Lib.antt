@@ -4,3 +4,4 @@ pub mod Back
 pub mod Place
 pub mod Rewritten
 pub mod Fours
+pub mod First

@@ -1,11 +1,13 @@
--- Packets needed: they hold the text, and no fewer do. Closed by division with remainder.
+-- Packets needed: they hold the text, no fewer do, and how the code counts them. Closed by division with remainder.
 use Prim.Native.Nat.{ℕ, zero, suc, _+_, _-_, _*_, _/_, _<_, _≤_}
+use mathlib.Core.Path.{_≡_}
 use mathlib.Core.Bool.{Bool, true, false}
 use native.Mathlib.Omega.{arith}
-use native.Mathlib.Nat.{div-add-mod', mod-lt, div-lt-iff-lt-mul}
+use native.Mathlib.Nat.{div-add-mod', mod-lt, div-lt-iff-lt-mul, div-zero, div-le-self, add-div-right}
 use lib.Dec.{ltb, leb, eqb}
-use borrow.Author.Tests.{ne-eqb}
+use borrow.Author.Tests.{eq-eqb, ne-eqb}
 use Rattle.laws.specs.Pick.{pick}
+use Rattle.counts.specs.Counts.{packet}
 use Rattle.text.specs.Octets.{needed, due}
 
 -- they hold it
@@ -38,7 +40,27 @@ needed-some cap (suc m) h = go (needed cap (suc m)) (needed-holds cap (suc m) h)
     go zero l = absurd (omega arith)
     go (suc n) l = omega arith
 
--- a format is one of four
+-- ---- as the code counts them
+module _ (cap bytes : ℕ) where
+  pub needed-none : bytes ≡ 0 → packet 1 ≡ packet (needed cap bytes)
+  unfolding needed
+  needed-none e = rw (eq-eqb bytes 0 e)
+
+  pub needed-without : (bytes ≡ 0 → ⊥) → cap ≡ 0 → packet 0 ≡ packet (needed cap bytes)
+  unfolding needed
+  needed-without n e = rw (ne-eqb bytes 0 n, e, div-zero (bytes + (0 - 1)))
+
+  pub needed-last : (bytes ≡ 0 → ⊥) → (cap ≡ 0 → ⊥) → packet ((bytes - 1) / cap + 1) ≡ packet (needed cap bytes)
+  unfolding needed
+  needed-last n m =
+      let e : bytes + (cap - 1) ≡ bytes - 1 + cap = omega arith in
+      rw (ne-eqb bytes 0 n, e, add-div-right (bytes - 1) {k = cap} (omega arith))
+
+  -- a text has no fewer bytes than packets
+  pub packets-fit : (bytes ≡ 0 → ⊥) → (bytes - 1) / cap + 1 ≤ bytes
+  packets-fit n = omega (arith, div-le-self (bytes - 1) cap)
+
+-- ---- a format is one of four
 pub due-small : (n p : ℕ) → due n p < 4
 unfolding due
 due-small n p = go (leb n 1) (eqb p 0) (ltb p (n - 1))

@@ -20,21 +20,22 @@ pub written-over : (ws a b : List ℕ) (h h′ : ℕ → ℕ) (cap n n′ : ℕ)
 unfolding written
 written-over ws a b h h′ cap n n′ = rw (length-upTo (wholeWords ws) (wordNew a h cap n) ws) (upTo-over (wholeWords ws) _ _ ws)
 
--- ---- past the first word nothing depends on the head
+-- ---- past the first word nothing depends on the head, nor on how many packets there are
 pub head-zero : (head j : ℕ) → 4 ≤ j → headOctet head j ≡ 0
 unfolding headOctet
 head-zero head j h = simp (le-ltb j 4 h)
 
-module _ (text : List ℕ) (cap n : ℕ) (hd hd′ : ℕ → ℕ) where
-  octet-past : (p j : ℕ) → 4 ≤ j → octetAt text hd cap n p j ≡ octetAt text hd′ cap n p j
+module _ (text : List ℕ) (cap : ℕ) (hd hd′ : ℕ → ℕ) (n n′ : ℕ) where
+  octet-past : (p j : ℕ) → 4 ≤ j → octetAt text hd cap n p j ≡ octetAt text hd′ cap n′ p j
   octet-past p j h =
-      ⊎-elim (λ (l : j < 16 - cap). octet-head text hd cap n p j l ∙ head-zero _ j h ∙ sym (octet-head text hd′ cap n p j l ∙ head-zero _ j h))
-      (λ (l : 16 - cap ≤ j). octet-text text hd cap n p j l ∙ sym (octet-text text hd′ cap n p j l)) (below j (16 - cap))
+      ⊎-elim (λ (l : j < 16 - cap). octet-head text hd cap n p j l ∙ head-zero _ j h ∙ sym (octet-head text hd′ cap n′ p j l ∙ head-zero _ j h))
+      (λ (l : 16 - cap ≤ j). octet-text text hd cap n p j l ∙ sym (octet-text text hd′ cap n′ p j l)) (below j (16 - cap))
 
-  pub word-past : (p q : ℕ) → 1 ≤ q → wordIn text hd cap n p q ≡ wordIn text hd′ cap n p q
+  pub word-past : (p q : ℕ) → 1 ≤ q → wordIn text hd cap n p q ≡ wordIn text hd′ cap n′ p q
   unfolding wordIn
   word-past p q h = rw (octet-past p (q * 4) (omega arith), octet-past p (q * 4 + 1) (omega arith), octet-past p (q * 4 + 2) (omega arith), octet-past p (q * 4 + 3) (omega arith))
 
+module _ (text : List ℕ) (cap n : ℕ) (hd hd′ : ℕ → ℕ) where
   -- CHANGING THE FIRST WORDS IS CHANGING THE HEAD
   module _ (ws : List ℕ) (hw : n * 4 ≤ length ws) (g : ℕ → ℕ) (first : (p : ℕ) → p < n → g (wordIn text hd cap n p 0) ≡ wordIn text hd′ cap n p 0) where
     abbrev old : List ℕ
@@ -48,7 +49,7 @@ module _ (text : List ℕ) (cap n : ℕ) (hd hd′ : ℕ → ℕ) where
 
     turned : (k w : ℕ) (b : Bool) → eqb (k % 4) 0 ≡ b → k < n * 4 → w ≡ wordIn text hd cap n (k / 4) (k % 4) → pick b (g w) w ≡ wordIn text hd′ cap n (k / 4) (k % 4)
     turned k w true q l e = let z : k % 4 ≡ 0 = eqb-true (k % 4) 0 q in ap g (e ∙ ap (wordIn text hd cap n (k / 4)) z) ∙ first (k / 4) (omega arith) ∙ ap (wordIn text hd′ cap n (k / 4)) (sym z)
-    turned k w false q l e = e ∙ word-past (k / 4) (k % 4) (omega (arith, eqb-false (k % 4) 0 q))
+    turned k w false q l e = e ∙ word-past text cap hd hd′ n n (k / 4) (k % 4) (omega (arith, eqb-false (k % 4) 0 q))
 
     after : (k : ℕ) → n * 4 ≤ k → getD old k 0 ≡ getD new k 0
     after k l =

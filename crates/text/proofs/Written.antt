@@ -22,6 +22,13 @@ module _ (text : List ℕ) (head : ℕ → ℕ) (cap n : ℕ) where
   unfolding wordNew
   word-text k h = simp (lt-ltb k (n * 4) h)
 
+  -- word q of packet p
+  pub word-packet : (p q : ℕ) → p < n → q < 4 → wordNew text head cap n (p * 4 + q) ≡ wordIn text head cap n p q
+  word-packet p q hp hq =
+      let e : (p * 4 + q) / 4 ≡ p = omega arith in
+      let m : (p * 4 + q) % 4 ≡ q = omega arith in
+      word-text (p * 4 + q) (omega arith) ∙ rw (e, m)
+
   pub word-zero : (k : ℕ) → n * 4 ≤ k → wordNew text head cap n k ≡ 0
   unfolding wordNew
   word-zero k h = simp (le-ltb k (n * 4) h)
@@ -39,12 +46,8 @@ module _ (text : List ℕ) (head : ℕ → ℕ) (cap n : ℕ) where
     unfolding written
     at-rest k h = upTo-rest _ _ ws k h
 
-    -- word q of packet p
     pub word-at : (p q : ℕ) → n * 4 ≤ length ws → p < n → q < 4 → getD (written ws text head cap n) (p * 4 + q) 0 ≡ wordIn text head cap n p q
-    word-at p q hw hp hq =
-        let e : (p * 4 + q) / 4 ≡ p = omega arith in
-        let m : (p * 4 + q) % 4 ≡ q = omega arith in
-        at-whole (p * 4 + q) (omega arith) ∙ word-text (p * 4 + q) (omega arith) ∙ rw (e, m)
+    word-at p q hw hp hq = at-whole (p * 4 + q) (omega arith) ∙ word-packet p q hp hq
 
 pub length-blank : (head : ℕ) (ws : List ℕ) → length (blank head ws) ≡ length ws
 unfolding blank

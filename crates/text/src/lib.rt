@@ -1,6 +1,7 @@
 // Text in packets of four words, over any capacity from 1 to 14: how it is laid out, read back, and handed out a byte at a time.
 pub mod by_byte;
 pub mod joined;
+pub mod packets;
 
 use counts::PacketNumber;
 use counts::TextByteNumber;

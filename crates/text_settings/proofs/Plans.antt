@@ -1,13 +1,11 @@
--- The packets that a text needs as the code counts them, and how the code reaches each case of a setting. Closed by division with remainder and the tests that lead there.
-use Prim.Native.Nat.{ℕ, _+_, _-_, _/_, _^_, _<_, _≤_}
+-- How the code reaches each case of a setting. Closed by the tests that lead there.
+use Prim.Native.Nat.{ℕ, _-_, _^_, _<_, _≤_}
 use mathlib.Core.Path.{_≡_, _∙_}
 use mathlib.Core.Bool.{true, false}
 use mathlib.Core.List.{List}
-use native.Mathlib.Omega.{arith}
-use native.Mathlib.Nat.{div-zero, div-le-self, add-div-right}
 use lib.ListN.{length}
 use lib.Dec.{leb}
-use borrow.Author.Tests.{lt-ltb, le-ltb, eq-eqb, ne-eqb, leb-true, leb-false}
+use borrow.Author.Tests.{lt-ltb, le-ltb, leb-true, leb-false}
 use Rattle.counts.specs.Counts.{packet}
 use Rattle.counts.specs.declared.PacketNumber.{PacketNumber}
 use Rattle.counts.specs.declared.TextByteNumber.{TextByteNumber}
@@ -26,26 +24,6 @@ use Rattle.settings.specs.Target.{targetOf}
 use Rattle.settings.proofs.Settled.{settled-refused, settled-own}
 use Rattle.text_settings.specs.declared.texts.Plan.the-variants as P
 use Rattle.text_settings.specs.Texts.{roomOf, planOf, textOn, eachOn}
-
--- ---- the packets needed
-module _ (cap bytes : ℕ) where
-  pub needed-none : bytes ≡ 0 → packet 1 ≡ packet (needed cap bytes)
-  unfolding needed
-  needed-none e = rw (eq-eqb bytes 0 e)
-
-  pub needed-without : (bytes ≡ 0 → ⊥) → cap ≡ 0 → packet 0 ≡ packet (needed cap bytes)
-  unfolding needed
-  needed-without n e = rw (ne-eqb bytes 0 n, e, div-zero (bytes + (0 - 1)))
-
-  pub needed-last : (bytes ≡ 0 → ⊥) → (cap ≡ 0 → ⊥) → packet ((bytes - 1) / cap + 1) ≡ packet (needed cap bytes)
-  unfolding needed
-  needed-last n m =
-      let e : bytes + (cap - 1) ≡ bytes - 1 + cap = omega arith in
-      rw (ne-eqb bytes 0 n, e, add-div-right (bytes - 1) {k = cap} (omega arith))
-
-  -- a text has no fewer bytes than packets
-  pub packets-fit : (bytes ≡ 0 → ⊥) → (bytes - 1) / cap + 1 ≤ bytes
-  packets-fit n = omega (arith, div-le-self (bytes - 1) cap)
 
 -- ---- the plan
 module _ (n room : ℕ) where

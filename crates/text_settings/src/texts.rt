@@ -1,7 +1,6 @@
-// Text set in packets, over any offset: the packets that it needs, why it is refused, and the act.
+// Text set in packets, over any offset: why it is refused, and the act.
 ghost use mathlib.Core.Path.{_≡_};
 ghost use Prim.Native.Nat.{_<_};
-ghost use Rattle.counts.specs.Counts.{packet};
 ghost use Rattle.kinds.specs.Layout.{layout};
 ghost use Rattle.text.specs.Octets.{needed};
 ghost use Rattle.text_settings.specs.Texts.{roomOf, planOf, textOn};
@@ -13,25 +12,13 @@ use kinds::kind::Kind;
 use kinds::refusal::Refusal;
 use records::answers::Answer;
 use settings::target::Target;
+use text::packets::packets_needed;
 use utf8::Utf8;
 
 pub enum Plan {
     // The text goes into so many packets.
     Needs(PacketNumber),
     Refused(Refusal),
-}
-
-// Packets needed for so many bytes: 1 for empty text, else bytes divided by capacity, rounded up.
-pub fn packets_needed(bytes: usize, capacity: usize) -> PacketNumber
-    ensures { λ r. ⌜ r ≡ packet (needed capacity bytes) ⌝ }
-{
-    if bytes == 0 {
-        return PacketNumber(1);
-    }
-    if capacity == 0 {
-        return PacketNumber(0);
-    }
-    PacketNumber((bytes - 1) / capacity + 1)
 }
 
 // Refusals 3 and 14, or the packets needed for so many bytes.

@@ -1,76 +1,66 @@
-use Prim.Native.Nat.{_≤_, _-_, _*_, _/_}
-use mathlib.Core.Path.{_≡_, refl}
+use Prim.Native.Nat.{_-_, _*_}
+use mathlib.Core.Path.{refl, sym, ap, _∙_}
 use native.Mathlib.Omega.{arith}
-use lib.ListN.{length}
 use borrow.Author.Tests.{lt-ltb, le-ltb, le-leb, lt-leb}
 use Rattle.laws.proofs.Pick.{here, past}
 use Rattle.text.specs.Written.{written, wordNew}
-use Rattle.filling.specs.Filling.{fillText, formatted}
-use Rattle.filling.proofs.Turns.{Filled, none-filled, more-filled, all-filled}
+use Rattle.text.proofs.Written.{word-zero}
+use Rattle.filling.specs.Filling.{clearFrom, formatted, fillText}
+use Rattle.filling.proofs.Turns.{clear-rest}
 use borrow.Author.Needs.{needs}
 use Rattle.filling.proofs.texts.fill_text.Statement.{statement}
 use Rattle.filling.proofs.texts.fill_text.Tie as tie
 
-abbrev Inv-loop : tie.InvT-loop
-Inv-loop words₀ text offset head n end k₀ words k = (end ≡ length words₀ / 4 * 4) × (k ≤ end) × Filled k (wordNew text (formatted head) (14 - offset) n) words₀ words
-
-abbrev μ-loop : tie.MeasureT-loop
-μ-loop words₀ text offset head n end k₀ words k = end - k
-
-returns : tie.Need-returns Inv-loop μ-loop
+returns : tie.Need-returns
 unfolding fillText
 returns c = here _ (le-leb _ _ (c .if1 .taken)) refl
 
-returns-2 : tie.Need-returns-2 Inv-loop μ-loop
+returns-2 : tie.Need-returns-2
 unfolding fillText
 returns-2 c = past _ (lt-leb _ _ (c .before .if1 .left)) (here _ (lt-ltb _ _ (c .if2 .taken)) refl)
 
-mul-end : tie.Need-mul-end Inv-loop μ-loop
-mul-end c = search needs
+fill-packets-requires : tie.Need-fill-packets-requires
+fill-packets-requires c κs = search needs
 
-loop-holds : tie.Need-loop-holds Inv-loop μ-loop
-loop-holds c = (refl, omega arith, none-filled _ _)
+same-length : tie.Need-same-length
+same-length c = search needs
 
-word-at-requires : tie.Need-word-at-requires Inv-loop μ-loop
-word-at-requires c κs = (c .before .before .before .if1 .left, c .before .before .if2 .left)
-
-mul-words : tie.Need-mul-words Inv-loop μ-loop
-mul-words c = search needs
-
-slice-write-words : tie.Need-slice-write-words Inv-loop μ-loop
-slice-write-words c = omega arith
-
-add-k : tie.Need-add-k Inv-loop μ-loop
-add-k c = omega arith
-
-loop-less : tie.Need-loop-less Inv-loop μ-loop
-loop-less c = omega arith
-
-loop-again : tie.Need-loop-again Inv-loop μ-loop
-loop-again c = (refl, omega arith, more-filled (c .before .before .loop .inv .2) _ (omega arith) (c .word-at .ensures))
-
-same-length : tie.Need-same-length Inv-loop μ-loop
-same-length c = c .before .loop .inv .2 .long
-
-returns-3 : tie.Need-returns-3 Inv-loop μ-loop
+returns-3 : tie.Need-returns-3
 unfolding fillText written
-returns-3 c = past _ (lt-leb _ _ (c .before .before .before .if1 .left)) (past _ (le-ltb _ _ (c .before .before .if2 .left)) (all-filled (c .before .loop .inv .2) _ (omega arith)))
+returns-3 c = past _ (lt-leb _ _ (c .before .before .before .before .before .before .if1 .left)) (past _ (le-ltb _ _ (c .before .before .before .before .before .if2 .left)) (c .before .before .fill-packets .ensures))
+
+fill-packets-requires-2 : tie.Need-fill-packets-requires-2
+fill-packets-requires-2 c κs = search needs
+
+mul-clear-from : tie.Need-mul-clear-from
+mul-clear-from c = search needs
+
+clear-from-requires : tie.Need-clear-from-requires
+clear-from-requires c κs = search needs
+
+same-length-2 : tie.Need-same-length-2
+same-length-2 c = search needs
+
+returns-4 : tie.Need-returns-4
+unfolding fillText written
+returns-4 c =
+    let a = c .before .before .before .before .before .before .before .before .before .before .before .before .before .args in
+    let n = a .packets .0 in
+    let f = wordNew (a .text .now) (formatted (a .head)) (14 - a .offset) n in
+    past _ (lt-leb _ _ (c .before .before .before .before .before .before .before .before .before .before .if1 .left)) (past _ (le-ltb _ _ (c .before .before .before .before .before .before .before .before .before .if2 .left))
+    (c .before .before .clear-from .ensures ∙ ap (clearFrom (n * 4)) (c .before .before .before .before .before .before .fill-packets2 .ensures) ∙ clear-rest f (n * 4) (a .words .now) (omega (arith, c .before .before .before .before .before .before .before .before .if3 .left)) (λ k h. sym (word-zero (a .text .now) (formatted (a .head)) (14 - a .offset) n k h))))
 
 pub fill-text-spec : {M : Type 1} → statement M
 fill-text-spec =
     tie.close
     (tie.spec
-    Inv-loop
-    μ-loop
     returns
     returns-2
-    mul-end
-    loop-holds
-    word-at-requires
-    mul-words
-    slice-write-words
-    add-k
-    loop-less
-    loop-again
+    fill-packets-requires
     same-length
-    returns-3)
+    returns-3
+    fill-packets-requires-2
+    mul-clear-from
+    clear-from-requires
+    same-length-2
+    returns-4)

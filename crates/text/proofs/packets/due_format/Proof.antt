@@ -1,10 +1,10 @@
 use mathlib.Core.Path.{refl}
 use borrow.Author.Tests.{le-leb, lt-leb, eq-eqb, ne-eqb, lt-ltb, le-ltb}
 use Rattle.laws.proofs.Pick.{here, past}
 use Rattle.text.specs.Octets.{due}
 use borrow.Author.Needs.{needs}
-use Rattle.reading.proofs.heads.due_format.Statement.{statement}
-use Rattle.reading.proofs.heads.due_format.Tie as tie
+use Rattle.text.proofs.packets.due_format.Statement.{statement}
+use Rattle.text.proofs.packets.due_format.Tie as tie
 
 returns : tie.Need-returns
 unfolding due

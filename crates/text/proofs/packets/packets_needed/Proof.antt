@@ -1,8 +1,8 @@
 use native.Mathlib.Omega.{arith}
-use Rattle.text_settings.proofs.Plans.{needed-none, needed-without, needed-last, packets-fit}
+use Rattle.text.proofs.Needed.{needed-none, needed-without, needed-last, packets-fit}
 use borrow.Author.Needs.{needs}
-use Rattle.text_settings.proofs.texts.packets_needed.Statement.{statement}
-use Rattle.text_settings.proofs.texts.packets_needed.Tie as tie
+use Rattle.text.proofs.packets.packets_needed.Statement.{statement}
+use Rattle.text.proofs.packets.packets_needed.Tie as tie
 
 returns : tie.Need-returns
 returns c = needed-none _ _ (c .if1 .taken)
