@@ -1,18 +1,18 @@
 -- A step of the numbers is a step of what is due. Closed by a computed test of the 9 states at each of the 256 bytes.
 use Prim.Native.Nat.{ℕ, zero, suc, _*_, _/_, _%_, _≤_, _<_}
 use mathlib.Core.Path.{_≡_, refl, sym, subst, _∙_}
-use mathlib.Core.Bool.{Bool, true, false, _&&_}
+use mathlib.Core.Bool.{Bool, true, false, not, _&&_}
 use mathlib.Core.Option.{none, some}
 use mathlib.Core.List.{List, [], _∷_}
 use native.Mathlib.Omega.{arith}
-use lib.Dec.{T, eqb, eqb→eq, eqb·suc-zero, ltb, ltb→lt}
+use lib.Dec.{T, eqb, eqb→eq, eqb·suc-zero, ltb, ltb→lt, leb}
 use lib.ListN.{getD}
 use Rattle.laws.specs.Pick.{pick}
-use Rattle.laws.proofs.Bytes.{eachBelow, at, and-left, and-right}
+use Rattle.laws.proofs.Bytes.{eachBelow, at, and-left, and-right, and-l, and-r}
 use Rattle.utf8.specs.Utf8.{_‥_, tail, after}
 use Rattle.utf8.proofs.Same.{same-ranges, same, same-eq}
 use Rattle.text.specs.Octets.{octetOf}
-use Rattle.fast_text.specs.Fast.{rowOf, stepOf, plainOf, givenOf}
+use Rattle.fast_text.specs.Fast.{rowOf, stepOf, plainOf, givenOf, threeOf}
 use Rattle.fast_text.proofs.Due.{Due, ready, nextDue, isReady}
 
 -- ---- the states: 6 k stands for what is due at k, and 48 for bad text
@@ -160,6 +160,50 @@ plain-given b h = go (eqb b 0)
     go : (t : Bool) → stepOf 0 (pick t 1 b) ≡ 0
     go true = plain-step 1 tt
     go false = plain-step b h
+
+-- ---- a character of three bytes: its first byte opens it, and two tails end it
+
+opens : ℕ → Bool
+opens b = leb 0xE1 b && (leb b 0xEF && not (eqb b 0xED))
+
+implied : Bool → Bool → Bool
+implied true b = b
+implied false b = true
+
+-- where the condition holds, the state is as told
+open-test : ℕ → Bool
+open-test b = implied (opens b) (eqb (givenOf 0 b) 12)
+
+tail-test : ℕ → Bool
+tail-test b = implied (eqb (b / 64) 2) (eqb (givenOf 12 b) 6 && eqb (givenOf 6 b) 0)
+
+implied-holds : (a b : Bool) → a ≡ true → T (implied a b) → T b
+unfolding implied
+implied-holds true b e t = t
+implied-holds false b e t = absurd (subst T (sym e) tt)
+
+pub open-given : (b : ℕ) → b < 256 → leb 0xE1 b && (leb b 0xEF && not (eqb b 0xED)) ≡ true → givenOf 0 b ≡ 12
+unfolding open-test opens implied givenOf stepOf rowOf
+open-given b l e = eqb→eq (givenOf 0 b) 12 (implied-holds (opens b) (eqb (givenOf 0 b) 12) e (at open-test 256 tt b l))
+
+tails : (b : ℕ) → b < 256 → eqb (b / 64) 2 ≡ true → T (eqb (givenOf 12 b) 6 && eqb (givenOf 6 b) 0)
+unfolding tail-test implied givenOf stepOf rowOf
+tails b l e = implied-holds (eqb (b / 64) 2) (eqb (givenOf 12 b) 6 && eqb (givenOf 6 b) 0) e (at tail-test 256 tt b l)
+
+pub tail-first : (b : ℕ) → b < 256 → eqb (b / 64) 2 ≡ true → givenOf 12 b ≡ 6
+tail-first b l e = eqb→eq (givenOf 12 b) 6 (and-left (eqb (givenOf 12 b) 6) (eqb (givenOf 6 b) 0) (tails b l e))
+
+pub tail-last : (b : ℕ) → b < 256 → eqb (b / 64) 2 ≡ true → givenOf 6 b ≡ 0
+tail-last b l e = eqb→eq (givenOf 6 b) 0 (and-right (eqb (givenOf 12 b) 6) (eqb (givenOf 6 b) 0) (tails b l e))
+
+pub three-octets : (w : ℕ) → threeOf w ≡ true → (eqb (octetOf w 1 / 64) 2 ≡ true) × (eqb (octetOf w 2 / 64) 2 ≡ true) × (leb 0xE1 (octetOf w 0) && (leb (octetOf w 0) 0xEF && not (eqb (octetOf w 0) 0xED)) ≡ true)
+unfolding threeOf
+three-octets w e =
+    let f = eqb (octetOf w 1 / 64) 2 in
+    let g = eqb (octetOf w 2 / 64) 2 in
+    let h = leb 0xE1 (octetOf w 0) && (leb (octetOf w 0) 0xEF && not (eqb (octetOf w 0) 0xED)) in
+    let u = and-r f (g && h) e in
+    (and-l f (g && h) e, and-l g h u, and-r g h u)
 
 -- ---- a number that is none of the first k, as the last arm of a match knows it
 

@@ -9,9 +9,9 @@ use Rattle.laws.specs.Lists.{nonzero}
 use Rattle.utf8.specs.Utf8.{firstBad}
 use Rattle.text.specs.Octets.{octetOf}
 use Rattle.text.proofs.Back.{octet-small}
-use Rattle.fast_text.specs.Fast.{isGood, stepOf, fourOf, plainOf, givenOf, fourGiven}
+use Rattle.fast_text.specs.Fast.{isGood, stepOf, fourOf, plainOf, givenOf}
 use Rattle.fast_text.proofs.Due.{Due, nextDue, passes, good-law, passes-none}
-use Rattle.fast_text.proofs.Codes.{Code, dueAt, code-zero, due-zero, due-bad, readDue, next-law, given-law, ready-law, plain-step, plain-octets, plain-given}
+use Rattle.fast_text.proofs.Codes.{Code, dueAt, code-zero, due-zero, due-bad, readDue, next-law, given-law, ready-law, plain-step, plain-octets}
 
 -- at state s, with the bytes xs left, the check will say v
 pub record Stands (s : ℕ) (xs : List ℕ) (v : Bool) : Type 0 where
@@ -63,8 +63,3 @@ pub given-step : {s : ℕ} (b : ℕ) {xs : List ℕ} {v : Bool} → b < 256 → 
 given-step {s} b {xs} l h =
     let n = given-law s b (h .code) l in
     record { code = n .code; leads = ap (λ (o : Due). passes o xs) (n .due) ∙ h .leads }
-
-pub plain-given-four : (w : ℕ) → plainOf w ≡ true → fourGiven 0 w ≡ 0
-plain-given-four w e =
-    let t = plain-octets w e in
-    rw (plain-given (octetOf w 0) (t .0), plain-given (octetOf w 1) (t .1), plain-given (octetOf w 2) (t .2), plain-given (octetOf w 3) (t .3))

@@ -1,6 +1,6 @@
 -- The numbers that the fast check steps through, and which octets of a packet's words it looks at.
 use Prim.Native.Nat.{ℕ, _+_, _-_, _*_, _/_, _%_, _^_}
-use mathlib.Core.Bool.{Bool, true, false, _&&_}
+use mathlib.Core.Bool.{Bool, true, false, not, _&&_}
 use mathlib.Core.List.{List, [], _∷_}
 use lib.Bits.{bitAnd}
 use lib.Dec.{eqb, ltb, leb}
@@ -9,6 +9,7 @@ use Rattle.laws.specs.Pick.{pick, both}
 use Rattle.utf8.specs.declared.Utf8.{Utf8}
 use Rattle.utf8.specs.declared.Utf8.the-variants.{Good, BadAt}
 use Rattle.text.specs.Octets.{octetOf}
+use Rattle.text.specs.Four.{joinedAt}
 
 -- a verdict without its place
 abbrev pub isGood : Utf8 → Bool
@@ -111,6 +112,20 @@ plainPacket ws offset p = pick (leb (length ws / 4) p) false (plainWords ws offs
 unfoldable pub givenOf : ℕ → ℕ → ℕ
 givenOf s b = stepOf s (pick (eqb b 0) 1 b)
 
--- the state after the octets of a word
-abbrev pub fourGiven : ℕ → ℕ → ℕ
-fourGiven s w = givenOf (givenOf (givenOf (givenOf s (octetOf w 0)) (octetOf w 1)) (octetOf w 2)) (octetOf w 3)
+-- the first three octets are a character of three bytes, with a first byte after which any two tails may come
+unfoldable pub threeOf : ℕ → Bool
+threeOf w =
+    eqb (octetOf w 1 / 64) 2
+    && (eqb (octetOf w 2 / 64) 2 && (leb 0xE1 (octetOf w 0) && (leb (octetOf w 0) 0xEF && not (eqb (octetOf w 0) 0xED))))
+
+-- a plain byte is a whole character
+unfoldable pub oneOf : ℕ → ℕ
+oneOf b = pick (ltb b 128) 1 0
+
+-- octets of a word, from the first on, that are whole characters: those that a look tells
+unfoldable pub wholeOf : ℕ → ℕ
+wholeOf w = pick (plainOf w) 4 (pick (threeOf w) 3 (oneOf (octetOf w 0)))
+
+-- the same of the bytes of a text from byte i on, and 0 where a character is open
+unfoldable pub wholeAt : ℕ → List ℕ → ℕ → ℕ
+wholeAt s text i = pick (eqb s 0) (pick (ltb (length text) (i + 4)) (oneOf (getD text i 0)) (wholeOf (joinedAt text i))) 0

@@ -1,8 +1,9 @@
-// A text as it is given, where a zero byte is a character: four bytes at a time, and at once where they are all plain.
+// A text as it is given, where a zero byte is a character: whole characters at once where a look tells them, and else a byte at a time.
 ghost use mathlib.Core.Path.{_≡_};
 ghost use Prim.Native.Nat.{_<_};
+ghost use lib.ListN.{length};
 ghost use Rattle.utf8.specs.Utf8.{firstBad};
-ghost use Rattle.fast_text.specs.Fast.{isGood, givenOf, fourGiven};
+ghost use Rattle.fast_text.specs.Fast.{isGood, threeOf, wholeOf, wholeAt, givenOf};
 use crate::table::BAD;
 use crate::table::step;
 use crate::words::plain;
@@ -20,20 +21,57 @@ fn given(s: u64, b: u8) -> u64
     step(s, b)
 }
 
-// The state after the four octets of w, at once where no character is open and all is plain.
-fn four_given(s: u64, w: u32) -> u64
-    requires { ⌜ s < 64 ⌝ }
-    ensures { λ r. ⌜ r ≡ fourGiven s w ⌝ }
+// Whether the first three octets are a character of three, with a first byte after which any two tails may come. The tests of the tails become one.
+fn three(w: u32) -> bool
+    ensures { λ r. ⌜ r ≡ threeOf w ⌝ }
 {
-    if s == 0 {
-        if plain(w) {
-            return 0;
-        }
+    let first = w / 0x1000000 % 256;
+    if w / 0x10000 % 256 / 64 != 2 {
+        return false;
     }
-    let a = given(s, (w / 0x1000000 % 256) as u8);
-    let b = given(a, (w / 0x10000 % 256) as u8);
-    let c = given(b, (w / 0x100 % 256) as u8);
-    given(c, (w % 256) as u8)
+    if w / 0x100 % 256 / 64 != 2 {
+        return false;
+    }
+    if first < 0xE1 {
+        return false;
+    }
+    if 0xEF < first {
+        return false;
+    }
+    first != 0xED
+}
+
+// Octets of w, from the first on, that are whole characters: four plain ones, or one character of three, or one plain octet; 0 where a look does not tell.
+fn whole(w: u32) -> usize
+    ensures { λ r. ⌜ r ≡ wholeOf w ⌝ }
+{
+    if plain(w) {
+        return 4;
+    }
+    if three(w) {
+        return 3;
+    }
+    if w / 0x1000000 % 256 < 128 {
+        return 1;
+    }
+    0
+}
+
+// The same of the bytes from byte i on, and 0 where a character is open.
+fn whole_at(s: u64, text: &[u8], i: usize) -> usize
+    requires { ⌜ i < length (now text) ⌝ }
+    ensures { λ r. ⌜ r ≡ wholeAt s (now (text .entry)) i ⌝ }
+{
+    if s != 0 {
+        return 0;
+    }
+    if 4 <= text.len() - i {
+        return whole(joined(text, i));
+    }
+    if text[i] < 128 {
+        return 1;
+    }
+    0
 }
 
 // Whether a text as it is given is UTF-8.
@@ -44,15 +82,15 @@ pub(crate) fn all_given(text: &[u8]) -> bool
     let mut s: u64 = 0;
     let mut i = 0;
     while i < n {
-        if s == BAD {
-            return false;
-        }
-        if n - i < 4 {
+        let k = whole_at(s, text, i);
+        if k == 0 {
             s = given(s, text[i]);
+            if s == BAD {
+                return false;
+            }
             i += 1;
         } else {
-            s = four_given(s, joined(text, i));
-            i += 4;
+            i += k;
         }
     }
     s == 0
