@@ -20,16 +20,14 @@ use Rattle.kinds.specs.declared.refusal.Refusal.the-variants.{NumberTooLarge}
 use Rattle.kinds.specs.Choices.{noPort, noDirection}
 use Rattle.kinds.specs.Fields.{Field, same, decided, start, partOf}
 use Rattle.kinds.specs.Layout.{Part, layout, kinds, kindOf, parts}
-use Rattle.kinds.proofs.Rows.{status-kind}
-use Rattle.kinds.proofs.Codes.{flag-bit, code-hint, code-port, code-direction, no-code-port, no-code-direction}
+use Rattle.kinds.proofs.Rows.{status-kind, among-status}
+use Rattle.kinds.proofs.Codes.{flag-bit, code-hint, code-port, code-direction}
 use Rattle.records.specs.declared.message.Message.{Message}
 use Rattle.records.specs.declared.message.Message.the-variants as M
 use Rattle.records.specs.declared.answers.Read.the-variants as R
 use Rattle.records.specs.Records.{Valued, kindIn, packetsIn, recordOf, fieldsIn, lookup, valuesOf, firstPart, inOrder}
-use Rattle.records.proofs.Records.{record-back}
+use Rattle.records.proofs.Records.{record-back, record-kind, port-named, direction-named}
 use Rattle.standard.specs.Reading.{readOf}
-use Rattle.standard.proofs.Rules.{among-status}
-use Rattle.standard.proofs.Fields.{record-kind}
 use Rattle.standard.proofs.Formed.{read-formed}
 use Rattle.crossing.specs.declared.numbers.Numbers.{Numbers}
 use Rattle.crossing.specs.declared.given.Given.the-variants as G
@@ -48,27 +46,6 @@ spread-back (M.ProductInstanceId n) = refl
 spread-back (M.FunctionBlockInfo e) = refl
 spread-back (M.FunctionBlockName b n) = refl
 
--- and their choices are named ones
-named-port : (m : Message) → eqb (getD (valuesOf m Field.midi1-port) 0 0) noPort ≡ false
-unfolding fieldsIn lookup same decided start
-named-port (M.EndpointDiscovery e) = refl
-named-port (M.EndpointInfo e) = refl
-named-port (M.DeviceIdentity e) = refl
-named-port (M.EndpointName n) = refl
-named-port (M.ProductInstanceId n) = refl
-named-port (M.FunctionBlockInfo e) = ne-eqb _ noPort (no-code-port (e .«midi1_port»))
-named-port (M.FunctionBlockName b n) = refl
-
-named-direction : (m : Message) → eqb (getD (valuesOf m Field.direction) 0 0) noDirection ≡ false
-unfolding fieldsIn lookup same decided start
-named-direction (M.EndpointDiscovery e) = refl
-named-direction (M.EndpointInfo e) = refl
-named-direction (M.DeviceIdentity e) = refl
-named-direction (M.EndpointName n) = refl
-named-direction (M.ProductInstanceId n) = refl
-named-direction (M.FunctionBlockInfo e) = ne-eqb _ noDirection (no-code-direction (e .direction))
-named-direction (M.FunctionBlockName b n) = refl
-
 module _ (m : Message) where
   own-kind : givenOf (crossed m) ≡ givenKind (kindIn m) (crossed m)
   own-kind = ap (λ (x : Known). givenKnown x (crossed m)) (status-kind (kindIn m))
@@ -82,8 +59,8 @@ module _ (m : Message) where
   -- A RECORD WHOSE NUMBERS FIT THE TABLE COMES BACK
   pub crossed-back : fits (layout (kindIn m) .fields) (parts (valuesOf m)) ≡ true → givenOf (crossed m) ≡ G.Message m
   crossed-back h =
-      own-kind ∙ given-whole (kindIn m) (crossed m) (own-fits ∙ h) (ap (λ (xs : List Valued). eqb (getD (lookup xs Field.midi1-port) 0 0) noPort) (spread-back m) ∙ named-port m)
-      (ap (λ (xs : List Valued). eqb (getD (lookup xs Field.direction) 0 0) noDirection) (spread-back m) ∙ named-direction m) ∙ ap G.Message own-record
+      own-kind ∙ given-whole (kindIn m) (crossed m) (own-fits ∙ h) (ap (λ (xs : List Valued). eqb (getD (lookup xs Field.midi1-port) 0 0) noPort) (spread-back m) ∙ ne-eqb _ noPort (port-named m))
+      (ap (λ (xs : List Valued). eqb (getD (lookup xs Field.direction) 0 0) noDirection) (spread-back m) ∙ ne-eqb _ noDirection (direction-named m)) ∙ ap G.Message own-record
 
   -- and every other is refused with 12, as where it is written
   pub crossed-large : fits (layout (kindIn m) .fields) (parts (valuesOf m)) ≡ false → givenOf (crossed m) ≡ G.Refused NumberTooLarge

@@ -3,12 +3,12 @@ ghost use mathlib.Core.Path.{_≡_};
 ghost use Prim.Native.Nat.{_<_};
 ghost use Rattle.counts.specs.Counts.{packet};
 ghost use Rattle.reading.specs.OnePass.{textBits, headBits, likeFirst, endsAt, plainPackets, plainText};
-use crate::heads::due_format;
 use crate::heads::format_of;
 use crate::heads::type_of;
 use counts::PacketNumber;
 use fast_text::plain::plain_packet;
 use kinds::kind::Kind;
+use text::packets::due_format;
 
 // The low bits of a packet's first word that may be text.
 fn text_bits(offset: usize) -> u32

@@ -18,7 +18,7 @@ use Rattle.standard.specs.Heads.{statusOf, headAt, packetsOf}
 use Rattle.standard.specs.Reading.{textAt, messageAt, valuesAt}
 use Rattle.standard.specs.Formed.{Formed}
 use Rattle.standard.specs.Walk.{part, walkOf}
-use Rattle.standard.proofs.Fields.{record-kind}
+use Rattle.records.proofs.Records.{record-kind}
 use Rattle.standard.proofs.Formed.{read-formed}
 use Rattle.standard.proofs.Walks.{formed-walk}
 use Rattle.reading.specs.OnePass.{plainText}
