@@ -1,5 +1,5 @@
 -- A step of the numbers is a step of what is due. Closed by a computed test of the 9 states at each of the 256 bytes.
-use Prim.Native.Nat.{ℕ, zero, suc, _*_, _/_, _%_, _≤_, _<_}
+use Prim.Native.Nat.{ℕ, zero, suc, _+_, _*_, _/_, _%_, _≤_, _<_}
 use mathlib.Core.Path.{_≡_, refl, sym, subst, _∙_}
 use mathlib.Core.Bool.{Bool, true, false, not, _&&_}
 use mathlib.Core.Option.{none, some}
@@ -7,12 +7,14 @@ use mathlib.Core.List.{List, [], _∷_}
 use native.Mathlib.Omega.{arith}
 use lib.Dec.{T, eqb, eqb→eq, eqb·suc-zero, ltb, ltb→lt, leb}
 use lib.ListN.{getD}
+use borrow.Author.Tests.{eqb-true}
 use Rattle.laws.specs.Pick.{pick}
+use Rattle.laws.proofs.Pick.{true-false, split}
 use Rattle.laws.proofs.Bytes.{eachBelow, at, and-left, and-right, and-l, and-r}
 use Rattle.utf8.specs.Utf8.{_‥_, tail, after}
 use Rattle.utf8.proofs.Same.{same-ranges, same, same-eq}
 use Rattle.text.specs.Octets.{octetOf}
-use Rattle.fast_text.specs.Fast.{rowOf, stepOf, plainOf, givenOf, threeOf}
+use Rattle.fast_text.specs.Fast.{rowOf, stepOf, leadOf, tailOf, pairOf, plainOf, givenOf, threeOf}
 use Rattle.fast_text.proofs.Due.{Due, ready, nextDue, isReady}
 
 -- ---- the states: 6 k stands for what is due at k, and 48 for bad text
@@ -163,47 +165,73 @@ plain-given b h = go (eqb b 0)
 
 -- ---- a character of three bytes: its first byte opens it, and two tails end it
 
-opens : ℕ → Bool
-opens b = leb 0xE1 b && (leb b 0xEF && not (eqb b 0xED))
-
 implied : Bool → Bool → Bool
 implied true b = b
 implied false b = true
 
--- where the condition holds, the state is as told
+-- where the condition holds, the state is as told, zeros dropped or not
 open-test : ℕ → Bool
-open-test b = implied (opens b) (eqb (givenOf 0 b) 12)
+open-test b = implied (leadOf b) (eqb (stepOf 0 b) 12 && eqb (givenOf 0 b) 12)
 
-tail-test : ℕ → Bool
-tail-test b = implied (eqb (b / 64) 2) (eqb (givenOf 12 b) 6 && eqb (givenOf 6 b) 0)
+first-test : ℕ → Bool
+first-test b = implied (tailOf b) (eqb (stepOf 12 b) 6 && eqb (givenOf 12 b) 6)
+
+last-test : ℕ → Bool
+last-test b = implied (tailOf b) (eqb (stepOf 6 b) 0 && eqb (givenOf 6 b) 0)
 
 implied-holds : (a b : Bool) → a ≡ true → T (implied a b) → T b
 unfolding implied
 implied-holds true b e t = t
 implied-holds false b e t = absurd (subst T (sym e) tt)
 
-pub open-given : (b : ℕ) → b < 256 → leb 0xE1 b && (leb b 0xEF && not (eqb b 0xED)) ≡ true → givenOf 0 b ≡ 12
-unfolding open-test opens implied givenOf stepOf rowOf
-open-given b l e = eqb→eq (givenOf 0 b) 12 (implied-holds (opens b) (eqb (givenOf 0 b) 12) e (at open-test 256 tt b l))
+pub record Leads (s b next : ℕ) : Type 0 where
+  pub step : stepOf s b ≡ next
+  pub given : givenOf s b ≡ next
 
-tails : (b : ℕ) → b < 256 → eqb (b / 64) 2 ≡ true → T (eqb (givenOf 12 b) 6 && eqb (givenOf 6 b) 0)
-unfolding tail-test implied givenOf stepOf rowOf
-tails b l e = implied-holds (eqb (b / 64) 2) (eqb (givenOf 12 b) 6 && eqb (givenOf 6 b) 0) e (at tail-test 256 tt b l)
+both-lead : (s b next : ℕ) → T (eqb (stepOf s b) next && eqb (givenOf s b) next) → Leads s b next
+both-lead s b next t =
+    record { step = eqb→eq (stepOf s b) next (and-left (eqb (stepOf s b) next) (eqb (givenOf s b) next) t); given = eqb→eq (givenOf s b) next (and-right (eqb (stepOf s b) next) (eqb (givenOf s b) next) t) }
 
-pub tail-first : (b : ℕ) → b < 256 → eqb (b / 64) 2 ≡ true → givenOf 12 b ≡ 6
-tail-first b l e = eqb→eq (givenOf 12 b) 6 (and-left (eqb (givenOf 12 b) 6) (eqb (givenOf 6 b) 0) (tails b l e))
+pub opens : (b : ℕ) → b < 256 → leadOf b ≡ true → Leads 0 b 12
+unfolding open-test implied givenOf stepOf rowOf
+opens b l e = both-lead 0 b 12 (implied-holds (leadOf b) _ e (at open-test 256 tt b l))
 
-pub tail-last : (b : ℕ) → b < 256 → eqb (b / 64) 2 ≡ true → givenOf 6 b ≡ 0
-tail-last b l e = eqb→eq (givenOf 6 b) 0 (and-right (eqb (givenOf 12 b) 6) (eqb (givenOf 6 b) 0) (tails b l e))
+pub tail-first : (b : ℕ) → b < 256 → tailOf b ≡ true → Leads 12 b 6
+unfolding first-test implied givenOf stepOf rowOf
+tail-first b l e = both-lead 12 b 6 (implied-holds (tailOf b) _ e (at first-test 256 tt b l))
 
-pub three-octets : (w : ℕ) → threeOf w ≡ true → (eqb (octetOf w 1 / 64) 2 ≡ true) × (eqb (octetOf w 2 / 64) 2 ≡ true) × (leb 0xE1 (octetOf w 0) && (leb (octetOf w 0) 0xEF && not (eqb (octetOf w 0) 0xED)) ≡ true)
+pub tail-last : (b : ℕ) → b < 256 → tailOf b ≡ true → Leads 6 b 0
+unfolding last-test implied givenOf stepOf rowOf
+tail-last b l e = both-lead 6 b 0 (implied-holds (tailOf b) _ e (at last-test 256 tt b l))
+
+pub three-octets : (w : ℕ) → threeOf w ≡ true → (tailOf (octetOf w 1) ≡ true) × (tailOf (octetOf w 2) ≡ true) × (leadOf (octetOf w 0) ≡ true)
 unfolding threeOf
 three-octets w e =
-    let f = eqb (octetOf w 1 / 64) 2 in
-    let g = eqb (octetOf w 2 / 64) 2 in
-    let h = leb 0xE1 (octetOf w 0) && (leb (octetOf w 0) 0xEF && not (eqb (octetOf w 0) 0xED)) in
+    let f = tailOf (octetOf w 1) in
+    let g = tailOf (octetOf w 2) in
+    let h = leadOf (octetOf w 0) in
     let u = and-r f (g && h) e in
     (and-l f (g && h) e, and-l g h u, and-r g h u)
+
+-- two bytes of such characters are two of three on
+pub pair-leads : (s a b : ℕ) → a < 256 → b < 256 → pairOf s a b ≡ true → stepOf (stepOf s a) b ≡ (s + 6) % 18
+unfolding pairOf
+pair-leads s a b la lb e = split (eqb s 0) none (λ x. split (eqb s 6) (one x) (λ y. split (eqb s 12) (two x y) (λ z. true-false (sym (rw (x, y, z) at e)))))
+  where
+    none : eqb s 0 ≡ true → stepOf (stepOf s a) b ≡ (s + 6) % 18
+    none x =
+        let t : leadOf a && tailOf b ≡ true = rw x at e in
+        rw (eqb-true s 0 x, opens a la (and-l (leadOf a) (tailOf b) t) .step) (tail-first b lb (and-r (leadOf a) (tailOf b) t) .step)
+
+    one : eqb s 0 ≡ false → eqb s 6 ≡ true → stepOf (stepOf s a) b ≡ (s + 6) % 18
+    one x y =
+        let t : tailOf a && leadOf b ≡ true = rw (x, y) at e in
+        rw (eqb-true s 6 y, tail-last a la (and-l (tailOf a) (leadOf b) t) .step) (opens b lb (and-r (tailOf a) (leadOf b) t) .step)
+
+    two : eqb s 0 ≡ false → eqb s 6 ≡ false → eqb s 12 ≡ true → stepOf (stepOf s a) b ≡ (s + 6) % 18
+    two x y z =
+        let t : tailOf a && tailOf b ≡ true = rw (x, y, z) at e in
+        rw (eqb-true s 12 z, tail-first a la (and-l (tailOf a) (tailOf b) t) .step) (tail-last b lb (and-r (tailOf a) (tailOf b) t) .step)
 
 -- ---- a number that is none of the first k, as the last arm of a match knows it
 

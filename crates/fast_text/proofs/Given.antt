@@ -18,7 +18,7 @@ use Rattle.text.proofs.Back.{octet-word}
 use Rattle.text.specs.Four.{joinedAt}
 use Rattle.text.proofs.Fours.{joined-in}
 use Rattle.fast_text.specs.Fast.{isGood, plainOf, givenOf, threeOf, oneOf, wholeOf, wholeAt}
-use Rattle.fast_text.proofs.Codes.{plain-octets, plain-given, three-octets, open-given, tail-first, tail-last}
+use Rattle.fast_text.proofs.Codes.{plain-octets, plain-given, three-octets, opens, tail-first, tail-last}
 use Rattle.fast_text.proofs.Stands.{Stands, stands-first, stands-end, given-step}
 
 module _ (text : List ℕ) where
@@ -81,9 +81,9 @@ module _ (text : List ℕ) where
         pub three-turn : threeOf w ≡ true → At 0 (i + 3)
         three-turn e =
             let t = rw (octets .0, octets .1, octets .2) at (three-octets w e) in
-            let first = known 0 12 i (omega arith) (open-given (getD text i 0) (small i) (t .2)) st in
-            let second = (rw e₂ at (known 12 6 (i + 1) (omega arith) (tail-first (getD text (i + 1) 0) (small (i + 1)) (t .0)) first)) in
-            rw e₃ at (known 6 0 (i + 2) (omega arith) (tail-last (getD text (i + 2) 0) (small (i + 2)) (t .1)) second)
+            let first = known 0 12 i (omega arith) (opens (getD text i 0) (small i) (t .2) .given) st in
+            let second = (rw e₂ at (known 12 6 (i + 1) (omega arith) (tail-first (getD text (i + 1) 0) (small (i + 1)) (t .0) .given) first)) in
+            rw e₃ at (known 6 0 (i + 2) (omega arith) (tail-last (getD text (i + 2) 0) (small (i + 2)) (t .1) .given) second)
 
     -- ---- what a look tells
     none-told : (s i : ℕ) → i < length text → At s i → Told s i 0

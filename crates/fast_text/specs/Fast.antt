@@ -72,6 +72,19 @@ rowOf b = movesOf (classesOf (b / 16) / 2 ^ (b % 16 * 4) % 16)
 unfoldable pub stepOf : ℕ → ℕ → ℕ
 stepOf s b = rowOf b / 2 ^ s % 64
 
+-- ---- characters of three bytes, without the tables
+
+-- a first byte after which any two tails may come
+abbrev pub leadOf : ℕ → Bool
+leadOf b = leb 0xE1 b && (leb b 0xEF && not (eqb b 0xED))
+
+abbrev pub tailOf : ℕ → Bool
+tailOf b = eqb (b / 64) 2
+
+-- two bytes go on with such characters: from where none is open, or one tail is due, or two
+unfoldable pub pairOf : ℕ → ℕ → ℕ → Bool
+pairOf s a b = pick (eqb s 0) (leadOf a && tailOf b) (pick (eqb s 6) (tailOf a && leadOf b) (pick (eqb s 12) (tailOf a && tailOf b) false))
+
 -- ---- a word more
 
 -- the state after the octets of a word
@@ -112,11 +125,9 @@ plainPacket ws offset p = pick (leb (length ws / 4) p) false (plainWords ws offs
 unfoldable pub givenOf : ℕ → ℕ → ℕ
 givenOf s b = stepOf s (pick (eqb b 0) 1 b)
 
--- the first three octets are a character of three bytes, with a first byte after which any two tails may come
+-- the first three octets are a character of three bytes that a look tells
 unfoldable pub threeOf : ℕ → Bool
-threeOf w =
-    eqb (octetOf w 1 / 64) 2
-    && (eqb (octetOf w 2 / 64) 2 && (leb 0xE1 (octetOf w 0) && (leb (octetOf w 0) 0xEF && not (eqb (octetOf w 0) 0xED))))
+threeOf w = tailOf (octetOf w 1) && (tailOf (octetOf w 2) && leadOf (octetOf w 0))
 
 -- a plain byte is a whole character
 unfoldable pub oneOf : ℕ → ℕ

@@ -6,6 +6,8 @@ ghost use Rattle.utf8.specs.Utf8.{firstBad};
 ghost use Rattle.fast_text.specs.Fast.{isGood, threeOf, wholeOf, wholeAt, givenOf};
 use crate::table::BAD;
 use crate::table::step;
+use crate::threes::lead;
+use crate::threes::tail;
 use crate::words::plain;
 use text::joined::joined;
 
@@ -21,24 +23,19 @@ fn given(s: u64, b: u8) -> u64
     step(s, b)
 }
 
-// Whether the first three octets are a character of three, with a first byte after which any two tails may come. The tests of the tails become one.
+// Whether the first three octets are a character of three that a look tells.
 fn three(w: u32) -> bool
     ensures { λ r. ⌜ r ≡ threeOf w ⌝ }
 {
-    let first = w / 0x1000000 % 256;
-    if w / 0x10000 % 256 / 64 != 2 {
-        return false;
+    let first = (w / 0x1000000 % 256) as u8;
+    let second = (w / 0x10000 % 256) as u8;
+    let third = (w / 0x100 % 256) as u8;
+    if tail(second) {
+        if tail(third) {
+            return lead(first);
+        }
     }
-    if w / 0x100 % 256 / 64 != 2 {
-        return false;
-    }
-    if first < 0xE1 {
-        return false;
-    }
-    if 0xEF < first {
-        return false;
-    }
-    first != 0xED
+    false
 }
 
 // Octets of w, from the first on, that are whole characters: four plain ones, or one character of three, or one plain octet; 0 where a look does not tell.

@@ -9,6 +9,7 @@ use utf8::Utf8;
 mod bytes;
 pub mod plain;
 mod table;
+mod threes;
 mod words;
 
 // Whether the text of the whole packets is UTF-8, and where its first bad character starts.

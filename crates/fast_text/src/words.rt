@@ -4,9 +4,22 @@ ghost use Prim.Native.Nat.{_-_, _/_, _<_};
 ghost use lib.ListN.{length};
 ghost use Rattle.utf8.specs.Utf8.{firstBad};
 ghost use Rattle.text.specs.Bytes.{textOf};
-ghost use Rattle.fast_text.specs.Fast.{isGood, fourOf, plainOf, maskOf};
+ghost use Rattle.fast_text.specs.Fast.{isGood, stepOf, fourOf, plainOf, maskOf};
 use crate::table::BAD;
 use crate::table::step;
+use crate::threes::pair;
+
+// The state after two bytes, without the tables where they go on with characters of three.
+fn two(s: u64, a: u8, b: u8) -> u64
+    requires { ⌜ s < 64 ⌝ }
+    ensures { λ r. ⌜ r ≡ stepOf (stepOf s a) b ⌝ }
+    ensures small { λ r. ⌜ r < 64 ⌝ }
+{
+    if pair(s, a, b) {
+        return (s + 6) % 18;
+    }
+    step(step(s, a), b)
+}
 
 // The state after the four octets of w.
 fn four(s: u64, w: u32) -> u64
@@ -14,10 +27,8 @@ fn four(s: u64, w: u32) -> u64
     ensures { λ r. ⌜ r ≡ fourOf s w ⌝ }
     ensures small { λ r. ⌜ r < 64 ⌝ }
 {
-    let a = step(s, (w / 0x1000000 % 256) as u8);
-    let b = step(a, (w / 0x10000 % 256) as u8);
-    let c = step(b, (w / 0x100 % 256) as u8);
-    step(c, (w % 256) as u8)
+    let half = two(s, (w / 0x1000000 % 256) as u8, (w / 0x10000 % 256) as u8);
+    two(half, (w / 0x100 % 256) as u8, (w % 256) as u8)
 }
 
 // Whether all four octets are ASCII, or zero. The four tests become one.

@@ -1,29 +1,51 @@
 -- `bytes::three` meets its contract: a test for each octet.
-use borrow.Author.Tests.{eq-eqb, ne-eqb, le-leb, lt-leb}
+use mathlib.Core.Path.{sym, _∙_}
 use Rattle.text.specs.Octets.{octetOf}
 use Rattle.fast_text.specs.Fast.{threeOf}
+use borrow.Author.Needs.{needs}
 use Rattle.fast_text.proofs.bytes.three.Statement.{statement}
 use Rattle.fast_text.proofs.bytes.three.Tie as tie
 
+cast-first : tie.Need-cast-first
+cast-first c = search needs
+
+cast-second : tie.Need-cast-second
+cast-second c = search needs
+
+cast-third : tie.Need-cast-third
+cast-third c = search needs
+
+tail-requires : tie.Need-tail-requires
+tail-requires c κs = search needs
+
+tail-requires-2 : tie.Need-tail-requires-2
+tail-requires-2 c κs = search needs
+
+lead-requires : tie.Need-lead-requires
+lead-requires c κs = search needs
+
 returns : tie.Need-returns
 unfolding threeOf octetOf
-returns c = rw (ne-eqb _ _ (c .if1 .taken))
+returns c = rw (sym (c .before .before .before .before .tail .ensures) ∙ c .before .before .before .if1 .taken, sym (c .before .before .tail2 .ensures) ∙ c .before .if2 .taken) (c .lead .ensures)
 
 returns-2 : tie.Need-returns-2
 unfolding threeOf octetOf
-returns-2 c = rw (eq-eqb _ _ (c .before .if1 .left), ne-eqb _ _ (c .if2 .taken))
+returns-2 c = rw (sym (c .before .before .before .tail .ensures) ∙ c .before .before .if1 .taken, sym (c .before .tail2 .ensures) ∙ c .if2 .left)
 
 returns-3 : tie.Need-returns-3
 unfolding threeOf octetOf
-returns-3 c = rw (eq-eqb _ _ (c .before .before .if1 .left), eq-eqb _ _ (c .before .if2 .left), lt-leb _ _ (c .if3 .taken))
-
-returns-4 : tie.Need-returns-4
-unfolding threeOf octetOf
-returns-4 c = rw (eq-eqb _ _ (c .before .before .before .if1 .left), eq-eqb _ _ (c .before .before .if2 .left), le-leb _ _ (c .before .if3 .left), lt-leb _ _ (c .if4 .taken))
-
-returns-5 : tie.Need-returns-5
-unfolding threeOf octetOf
-returns-5 c = rw (eq-eqb _ _ (c .before .before .before .if1 .left), eq-eqb _ _ (c .before .before .if2 .left), le-leb _ _ (c .before .if3 .left), le-leb _ _ (c .if4 .left))
+returns-3 c = rw (sym (c .before .tail .ensures) ∙ c .if1 .left)
 
 pub three-spec : {M : Type 1} → statement M
-three-spec = tie.close (tie.spec returns returns-2 returns-3 returns-4 returns-5)
+three-spec =
+    tie.close
+    (tie.spec
+    cast-first
+    cast-second
+    cast-third
+    tail-requires
+    tail-requires-2
+    lead-requires
+    returns
+    returns-2
+    returns-3)

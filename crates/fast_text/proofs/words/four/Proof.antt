@@ -1,48 +1,33 @@
--- `words::four` meets its contract: a step for each octet.
+-- `words::four` meets its contract: two octets, and two.
 use native.Mathlib.Nat.{div-one}
-use borrow.Author.Needs.{needs}
 use Rattle.text.specs.Octets.{octetOf}
+use borrow.Author.Needs.{needs}
 use Rattle.fast_text.proofs.words.four.Statement.{statement}
 use Rattle.fast_text.proofs.words.four.Tie as tie
 
-cast-step : tie.Need-cast-step
-cast-step c = search needs
+cast-two : tie.Need-cast-two
+cast-two c = search needs
 
-step-requires : tie.Need-step-requires
-step-requires c κs = search needs
+cast-two-2 : tie.Need-cast-two-2
+cast-two-2 c = search needs
 
-cast-step-2 : tie.Need-cast-step-2
-cast-step-2 c = search needs
+two-requires : tie.Need-two-requires
+two-requires c κs = search needs
 
-step-requires-2 : tie.Need-step-requires-2
-step-requires-2 c κs = search needs
+cast-two-3 : tie.Need-cast-two-3
+cast-two-3 c = search needs
 
-cast-step-3 : tie.Need-cast-step-3
-cast-step-3 c = search needs
+cast-two-4 : tie.Need-cast-two-4
+cast-two-4 c = search needs
 
-step-requires-3 : tie.Need-step-requires-3
-step-requires-3 c κs = search needs
-
-cast-step-4 : tie.Need-cast-step-4
-cast-step-4 c = search needs
-
-step-requires-4 : tie.Need-step-requires-4
-step-requires-4 c κs = search needs
+two-requires-2 : tie.Need-two-requires-2
+two-requires-2 c κs = search needs
 
 returns : tie.Need-returns
 unfolding octetOf
-returns c = (rw (c .step4 .ensures .0, c .before .step3 .ensures .0, c .before .before .step2 .ensures .0, c .before .before .before .step .ensures .0, div-one), search needs)
+returns c = (rw (c .two2 .ensures .0, c .before .two .ensures .0, div-one), search needs)
 
 pub four-spec : {M : Type 1} → statement M
 four-spec =
     tie.close
-    (tie.spec
-    cast-step
-    step-requires
-    cast-step-2
-    step-requires-2
-    cast-step-3
-    step-requires-3
-    cast-step-4
-    step-requires-4
-    returns)
+    (tie.spec cast-two cast-two-2 two-requires cast-two-3 cast-two-4 two-requires-2 returns)
