@@ -1,19 +1,23 @@
 -- A step of the numbers is a step of what is due. Closed by a computed test of the 9 states at each of the 256 bytes.
-use Prim.Native.Nat.{ℕ, zero, suc, _+_, _*_, _/_, _%_, _≤_, _<_}
+use Prim.Native.Nat.{ℕ, zero, suc, _+_, _*_, _/_, _%_, _^_, _≤_, _<_}
 use mathlib.Core.Path.{_≡_, refl, sym, subst, _∙_}
 use mathlib.Core.Bool.{Bool, true, false, not, _&&_}
 use mathlib.Core.Option.{none, some}
 use mathlib.Core.List.{List, [], _∷_}
+use native.Mathlib.Nat.{mod-eq-of-lt}
 use native.Mathlib.Omega.{arith}
 use lib.Dec.{T, eqb, eqb→eq, eqb·suc-zero, ltb, ltb→lt, leb}
 use lib.ListN.{getD}
-use borrow.Author.Tests.{eqb-true}
+use borrow.Author.Tests.{eqb-true, leb-true, eq-eqb, ne-eqb, le-leb}
 use Rattle.laws.specs.Pick.{pick}
 use Rattle.laws.proofs.Pick.{true-false, split}
 use Rattle.laws.proofs.Bytes.{eachBelow, at, and-left, and-right, and-l, and-r}
 use Rattle.utf8.specs.Utf8.{_‥_, tail, after}
 use Rattle.utf8.proofs.Same.{same-ranges, same, same-eq}
+use Rattle.laws.specs.Bits.{wordOf}
 use Rattle.text.specs.Octets.{octetOf}
+use Rattle.text.proofs.Back.{octet-small}
+use Rattle.text.proofs.First.{octets-of}
 use Rattle.fast_text.specs.Fast.{rowOf, stepOf, leadOf, tailOf, pairOf, plainOf, givenOf, threeOf}
 use Rattle.fast_text.proofs.Due.{Due, ready, nextDue, isReady}
 
@@ -212,6 +216,60 @@ three-octets w e =
     let h = leadOf (octetOf w 0) in
     let u = and-r f (g && h) e in
     (and-l f (g && h) e, and-l g h u, and-r g h u)
+
+-- the same in numbers, as the code tests them
+pub record ThreeIn (w : ℕ) : Type 0 where
+  pub second : w / 0x10000 % 256 / 64 ≡ 2
+  pub third : w / 0x100 % 256 / 64 ≡ 2
+  pub least : 0xE1 ≤ w / 0x1000000 % 256
+  pub most : w / 0x1000000 % 256 ≤ 0xEF
+  pub other : w / 0x1000000 % 256 ≡ 0xED → ⊥
+
+three-in : (w : ℕ) → threeOf w ≡ true → ThreeIn w
+unfolding octetOf
+three-in w e =
+    let t = three-octets w e in
+    let first = w / 0x1000000 % 256 in
+    let rest = and-r (leb 0xE1 first) (leb first 0xEF && not (eqb first 0xED)) (t .2) in
+    record {
+      second = eqb-true _ _ (t .0);
+      third = eqb-true _ _ (t .1);
+      least = leb-true _ _ (and-l (leb 0xE1 first) (leb first 0xEF && not (eqb first 0xED)) (t .2));
+      most = leb-true _ _ (and-l (leb first 0xEF) (not (eqb first 0xED)) rest);
+      other = λ q. true-false (sym (rw (eq-eqb first 0xED q) at (and-r (leb first 0xEF) (not (eqb first 0xED)) rest)));
+    }
+
+-- the two high bits of an octet, found in the word
+two-high : (x : ℕ) → x % 256 / 64 ≡ x / 64 % 4
+two-high x = omega arith
+
+pub second-high : (w : ℕ) → w / 0x400000 % 4 ≡ 2 → w / 0x10000 % 256 / 64 ≡ 2
+second-high w e = let d : w / 0x10000 / 64 ≡ w / 0x400000 = omega arith in two-high (w / 0x10000) ∙ rw d e
+
+pub third-high : (w : ℕ) → w / 0x4000 % 4 ≡ 2 → w / 0x100 % 256 / 64 ≡ 2
+third-high w e = let d : w / 0x100 / 64 ≡ w / 0x4000 = omega arith in two-high (w / 0x100) ∙ rw d e
+
+-- the highest octet is all that is left of a word
+pub first-octet : (w : ℕ) → w < 2 ^ 32 → w / 0x1000000 % 256 ≡ w / 0x1000000
+first-octet w h = mod-eq-of-lt (let l : w / 0x1000000 < 256 = omega arith in l)
+
+-- between the words that start with EC and with EE there are those with ED alone
+gap : (a b c d : ℕ) → b / 64 ≡ 2 → c / 64 ≡ 2 → d < 256 → (a ≡ 0xED → ⊥) → 0xECBFBFFF < wordOf a b c d → wordOf a b c d < 0xEE808000 → ⊥
+gap a b c d hb hc hd ha l m = omega arith
+
+pub no-gap : (w : ℕ) → w < 2 ^ 32 → ThreeIn w → 0xECBFBFFF < w → w < 0xEE808000 → ⊥
+unfolding octetOf
+no-gap w small t l m =
+    let o = octets-of w small .0 in
+    gap (octetOf w 0) (octetOf w 1) (octetOf w 2) (octetOf w 3) (t .second) (t .third) (octet-small w 3) (t .other) (rw o l) (rw o m)
+
+pub is-three : (w : ℕ) → ThreeIn w → true ≡ threeOf w
+unfolding threeOf octetOf
+is-three w t =
+    rw (eq-eqb _ _ (t .second), eq-eqb _ _ (t .third), le-leb _ _ (t .least), le-leb _ _ (t .most), ne-eqb _ _ (t .other))
+
+pub no-three : (w : ℕ) → (ThreeIn w → ⊥) → false ≡ threeOf w
+no-three w h = split (threeOf w) (λ e. absurd (h (three-in w e))) (λ e. sym e)
 
 -- two bytes of such characters are two of three on
 pub pair-leads : (s a b : ℕ) → a < 256 → b < 256 → pairOf s a b ≡ true → stepOf (stepOf s a) b ≡ (s + 6) % 18

@@ -1,40 +1,39 @@
--- The loop over a text as it is given: a byte more, or what a look tells. Closed by the steps of `Stands`, at the bytes that are left.
+-- A text as it is given: a byte more, and whole characters that a look tells. Closed by the steps of `Stands`, at the bytes that are left.
 use Prim.Native.Nat.{ℕ, _+_, _≤_, _<_}
-use mathlib.Core.Path.{_≡_}
-use mathlib.Core.Bool.{true}
+use mathlib.Core.Path.{_≡_, refl, sym, ap, _∙_}
+use mathlib.Core.Bool.{Bool, true}
 use mathlib.Core.List.{List}
 use native.Mathlib.Nat.{add-zero}
 use native.Mathlib.Numerals.{add-one}
 use native.Mathlib.Omega.{arith}
-use lib.Dec.{T, eqb, ltb, lt→ltb}
+use lib.Dec.{T, eqb, ltb, lt→ltb, lit≤}
 use lib.ListN.{length, getD, drop, drop-of-length-le}
 use lib.Seq.{drop-cons}
-use borrow.Author.Tests.{ltb-true, ltb-false, eqb-true}
-use Rattle.laws.specs.Pick.{pick}
 use Rattle.laws.proofs.Pick.{split}
 use Rattle.utf8.specs.Utf8.{firstBad}
 use Rattle.text.specs.Octets.{octetOf}
 use Rattle.text.proofs.Back.{octet-word}
 use Rattle.text.specs.Four.{joinedAt}
 use Rattle.text.proofs.Fours.{joined-in}
-use Rattle.fast_text.specs.Fast.{isGood, plainOf, givenOf, threeOf, oneOf, wholeOf, wholeAt}
-use Rattle.fast_text.proofs.Codes.{plain-octets, plain-given, three-octets, opens, tail-first, tail-last}
+use Rattle.fast_text.specs.Fast.{isGood, plainOf, givenOf, threeOf, wholeOf, Past}
+use Rattle.fast_text.proofs.Due.{Due, passes, good-law}
+use Rattle.fast_text.proofs.Codes.{due-zero, plain-octets, plain-given, three-octets, opens, tail-first, tail-last}
 use Rattle.fast_text.proofs.Stands.{Stands, stands-first, stands-end, given-step}
 
-module _ (text : List ℕ) where
-  -- the check stands at byte i, and will say what the definition says
+module _ (text : List ℕ) (v : Bool) where
+  -- the check stands at byte i, and will say v
   abbrev pub At : ℕ → ℕ → Type 0
-  At s i = Stands s (drop i text) (isGood (firstBad text))
+  At s i = Stands s (drop i text) v
 
-  -- k bytes more, or none
-  abbrev pub Told : ℕ → ℕ → ℕ → Type 0
-  Told s i k = At s (i + k) × (i + k ≤ length text)
-
-  pub begin : At 0 0
-  begin = stands-first text
-
-  pub finish : (s i : ℕ) → length text ≤ i → At s i → eqb s 0 ≡ isGood (firstBad text)
+  pub finish : (s i : ℕ) → length text ≤ i → At s i → eqb s 0 ≡ v
   finish s i h st = stands-end s _ (rw (drop-of-length-le text h) at st)
+
+  -- where no character is open, what is left says it
+  pub open-none : (i : ℕ) → isGood (firstBad (drop i text)) ≡ v → At 0 i
+  open-none i e = rw e at (stands-first (drop i text))
+
+  none-open : (i : ℕ) → At 0 i → isGood (firstBad (drop i text)) ≡ v
+  none-open i st = good-law (drop i text) ∙ ap (λ (o : Due). passes o (drop i text)) (sym due-zero) ∙ st .leads
 
   module _ (small : (k : ℕ) → getD text k 0 < 256) where
     pub turn : (s i : ℕ) → i < length text → At s i → At (givenOf s (getD text i 0)) (i + 1)
@@ -85,23 +84,37 @@ module _ (text : List ℕ) where
             let second = (rw e₂ at (known 12 6 (i + 1) (omega arith) (tail-first (getD text (i + 1) 0) (small (i + 1)) (t .0) .given) first)) in
             rw e₃ at (known 6 0 (i + 2) (omega arith) (tail-last (getD text (i + 2) 0) (small (i + 2)) (t .1) .given) second)
 
-    -- ---- what a look tells
-    none-told : (s i : ℕ) → i < length text → At s i → Told s i 0
-    none-told s i h st = (rw (add-zero i) st, omega arith)
+-- ---- bytes passed that are whole characters
+pub past-none : (text : List ℕ) (i : ℕ) → i ≤ length text → Past text i i
+past-none text i h = record { onward = omega arith; within = h; same = refl }
 
-    one-told : (i : ℕ) → i < length text → At 0 i → Told 0 i (oneOf (getD text i 0))
-    unfolding oneOf
-    one-told i h st = split (ltb (getD text i 0) 128) (λ e. rw e (one-turn i st h (ltb-true _ _ e), omega arith)) (λ e. rw e (none-told 0 i h st))
+pub past-more : {text : List ℕ} {i j k : ℕ} → Past text i j → Past text j k → Past text i k
+past-more p q = record { onward = omega (arith, p .onward, q .onward); within = q .within; same = q .same ∙ p .same }
 
-    word-told : (i : ℕ) → i + 4 ≤ length text → At 0 i → Told 0 i (wholeOf (joinedAt text i))
-    unfolding wholeOf
-    word-told i h st =
-        split (plainOf (joinedAt text i)) (λ e. rw e (four-turn i st h e, h))
-        (λ e. split (threeOf (joinedAt text i)) (λ f. rw (e, f) (three-turn i st h f, omega arith)) (λ f. rw (e, f, octets i st h .0) (one-told i (omega arith) st)))
+-- where the check stood with none open it stands so after them
+pub past-at : (text : List ℕ) (v : Bool) (i j : ℕ) → Past text i j → At text v 0 i → At text v 0 j
+past-at text v i j p st = open-none text v j (p .same ∙ none-open text v i st)
 
-    ready-told : (i : ℕ) → i < length text → At 0 i → Told 0 i (pick (ltb (length text) (i + 4)) (oneOf (getD text i 0)) (wholeOf (joinedAt text i)))
-    ready-told i h st = split (ltb (length text) (i + 4)) (λ e. rw e (one-told i h st)) (λ e. rw e (word-told i (ltb-false _ _ e) st))
+module _ (text : List ℕ) (small : (k : ℕ) → getD text k 0 < 256) (i : ℕ) where
+  start : At text (isGood (firstBad (drop i text))) 0 i
+  start = open-none text _ i refl
 
-    pub whole-turn : (s i : ℕ) → i < length text → At s i → Told s i (wholeAt s text i)
-    unfolding wholeAt
-    whole-turn s i h st = split (eqb s 0) (λ e. let z : s ≡ 0 = eqb-true s 0 e in rw (e, z) (ready-told i h (rw z at st))) (λ e. rw e (none-told s i h st))
+  passed-to : (k : ℕ) → i + k ≤ length text → At text (isGood (firstBad (drop i text))) 0 (i + k) → Past text i (i + k)
+  passed-to k h st = record { onward = omega arith; within = h; same = none-open text _ (i + k) st }
+
+  pub past-one : i < length text → getD text i 0 < 128 → Past text i (i + 1)
+  past-one h b = passed-to 1 (omega arith) (one-turn text _ small i start h b)
+
+  -- what a look at four bytes tells
+  pub past-look : i + 4 ≤ length text → Past text i (i + wholeOf (joinedAt text i))
+  unfolding wholeOf
+  past-look h =
+      split (plainOf (joinedAt text i)) (λ e. rw e (passed-to 4 h (four-turn text _ small i start h e)))
+      (λ e. split (threeOf (joinedAt text i)) (λ f. rw (e, f) (passed-to 3 (omega arith) (three-turn text _ small i start h f)))
+      (λ f. rw (e, f, add-zero i) (past-none text i (omega arith))))
+
+pub look-most : (w : ℕ) → wholeOf w ≤ 4
+unfolding wholeOf
+look-most w =
+    split (plainOf w) (λ e. rw e (lit≤ tt))
+    (λ e. split (threeOf w) (λ f. rw (e, f) (lit≤ tt)) (λ f. rw (e, f) (lit≤ tt)))

@@ -1,15 +1,16 @@
 -- The numbers that the fast check steps through, and which octets of a packet's words it looks at.
-use Prim.Native.Nat.{ℕ, _+_, _-_, _*_, _/_, _%_, _^_}
+use Prim.Native.Nat.{ℕ, _+_, _-_, _*_, _/_, _%_, _^_, _≤_}
+use mathlib.Core.Path.{_≡_}
 use mathlib.Core.Bool.{Bool, true, false, not, _&&_}
 use mathlib.Core.List.{List, [], _∷_}
 use lib.Bits.{bitAnd}
 use lib.Dec.{eqb, ltb, leb}
-use lib.ListN.{getD, length}
+use lib.ListN.{getD, drop, length}
 use Rattle.laws.specs.Pick.{pick, both}
+use Rattle.utf8.specs.Utf8.{firstBad}
 use Rattle.utf8.specs.declared.Utf8.{Utf8}
 use Rattle.utf8.specs.declared.Utf8.the-variants.{Good, BadAt}
 use Rattle.text.specs.Octets.{octetOf}
-use Rattle.text.specs.Four.{joinedAt}
 
 -- a verdict without its place
 abbrev pub isGood : Utf8 → Bool
@@ -129,14 +130,12 @@ givenOf s b = stepOf s (pick (eqb b 0) 1 b)
 unfoldable pub threeOf : ℕ → Bool
 threeOf w = tailOf (octetOf w 1) && (tailOf (octetOf w 2) && leadOf (octetOf w 0))
 
--- a plain byte is a whole character
-unfoldable pub oneOf : ℕ → ℕ
-oneOf b = pick (ltb b 128) 1 0
-
 -- octets of a word, from the first on, that are whole characters: those that a look tells
 unfoldable pub wholeOf : ℕ → ℕ
-wholeOf w = pick (plainOf w) 4 (pick (threeOf w) 3 (oneOf (octetOf w 0)))
+wholeOf w = pick (plainOf w) 4 (pick (threeOf w) 3 0)
 
--- the same of the bytes of a text from byte i on, and 0 where a character is open
-unfoldable pub wholeAt : ℕ → List ℕ → ℕ → ℕ
-wholeAt s text i = pick (eqb s 0) (pick (ltb (length text) (i + 4)) (oneOf (getD text i 0)) (wholeOf (joinedAt text i))) 0
+-- from byte i to byte j of a text there are whole characters: what is left is good exactly where it was
+pub record Past (text : List ℕ) (i j : ℕ) : Type 0 where
+  pub onward : i ≤ j
+  pub within : j ≤ length text
+  pub same : isGood (firstBad (drop j text)) ≡ isGood (firstBad (drop i text))

@@ -1,13 +1,11 @@
 // A text as it is given, where a zero byte is a character: whole characters at once where a look tells them, and else a byte at a time.
 ghost use mathlib.Core.Path.{_≡_};
-ghost use Prim.Native.Nat.{_<_};
+ghost use Prim.Native.Nat.{_<_, _≤_};
 ghost use lib.ListN.{length};
 ghost use Rattle.utf8.specs.Utf8.{firstBad};
-ghost use Rattle.fast_text.specs.Fast.{isGood, threeOf, wholeOf, wholeAt, givenOf};
+ghost use Rattle.fast_text.specs.Fast.{isGood, threeOf, wholeOf, Past, givenOf};
 use crate::table::BAD;
 use crate::table::step;
-use crate::threes::lead;
-use crate::threes::tail;
 use crate::words::plain;
 use text::joined::joined;
 
@@ -23,22 +21,29 @@ fn given(s: u64, b: u8) -> u64
     step(s, b)
 }
 
-// Whether the first three octets are a character of three that a look tells.
+// Whether the first three octets are a character of three that a look tells. Tests of the word as a whole let its bytes be loaded at once.
 fn three(w: u32) -> bool
     ensures { λ r. ⌜ r ≡ threeOf w ⌝ }
 {
-    let first = (w / 0x1000000 % 256) as u8;
-    let second = (w / 0x10000 % 256) as u8;
-    let third = (w / 0x100 % 256) as u8;
-    if tail(second) {
-        if tail(third) {
-            return lead(first);
-        }
+    if w / 0x10000000 != 0xE {
+        return false;
     }
-    false
+    if w / 0x400000 % 4 != 2 {
+        return false;
+    }
+    if w / 0x4000 % 4 != 2 {
+        return false;
+    }
+    if w < 0xE1808000 {
+        return false;
+    }
+    if 0xECBFBFFF < w {
+        return 0xEE808000 <= w;
+    }
+    true
 }
 
-// Octets of w, from the first on, that are whole characters: four plain ones, or one character of three, or one plain octet; 0 where a look does not tell.
+// Octets of w, from the first on, that are whole characters: four plain ones, or one character of three; 0 where a look does not tell.
 fn whole(w: u32) -> usize
     ensures { λ r. ⌜ r ≡ wholeOf w ⌝ }
 {
@@ -48,46 +53,66 @@ fn whole(w: u32) -> usize
     if three(w) {
         return 3;
     }
-    if w / 0x1000000 % 256 < 128 {
-        return 1;
-    }
     0
 }
 
-// The same of the bytes from byte i on, and 0 where a character is open.
-fn whole_at(s: u64, text: &[u8], i: usize) -> usize
-    requires { ⌜ i < length (now text) ⌝ }
-    ensures { λ r. ⌜ r ≡ wholeAt s (now (text .entry)) i ⌝ }
+// A byte after whole characters, as far as a look at four bytes tells them.
+fn past_words(text: &[u8], from: usize) -> usize
+    requires { ⌜ from ≤ length (now text) ⌝ }
+    ensures { λ r. ⌜ Past (now (text .entry)) from r ⌝ }
 {
-    if s != 0 {
-        return 0;
+    if text.len() < 4 {
+        return from;
     }
-    if 4 <= text.len() - i {
-        return whole(joined(text, i));
+    let last = text.len() - 4;
+    let mut i = from;
+    while i <= last {
+        let k = whole(joined(text, i));
+        if k == 0 {
+            return i;
+        }
+        i += k;
     }
-    if text[i] < 128 {
-        return 1;
-    }
-    0
+    i
 }
 
-// Whether a text as it is given is UTF-8.
+// The same, as far as bytes are plain.
+fn past_plain(text: &[u8], from: usize) -> usize
+    requires { ⌜ from ≤ length (now text) ⌝ }
+    ensures { λ r. ⌜ Past (now (text .entry)) from r ⌝ }
+{
+    let mut i = from;
+    while i < text.len() {
+        if 128 <= text[i] {
+            return i;
+        }
+        i += 1;
+    }
+    i
+}
+
+// The same, one after the other.
+fn past_whole(text: &[u8], from: usize) -> usize
+    requires { ⌜ from ≤ length (now text) ⌝ }
+    ensures { λ r. ⌜ Past (now (text .entry)) from r ⌝ }
+{
+    past_plain(text, past_words(text, from))
+}
+
+// Whether a text as it is given is UTF-8: by the tables where a look does not tell.
 pub(crate) fn all_given(text: &[u8]) -> bool
     ensures { λ r. ⌜ r ≡ isGood (firstBad (now (text .entry))) ⌝ }
 {
-    let n = text.len();
     let mut s: u64 = 0;
-    let mut i = 0;
-    while i < n {
-        let k = whole_at(s, text, i);
-        if k == 0 {
-            s = given(s, text[i]);
-            if s == BAD {
-                return false;
-            }
-            i += 1;
-        } else {
-            i += k;
+    let mut i = past_whole(text, 0);
+    while i < text.len() {
+        s = given(s, text[i]);
+        if s == BAD {
+            return false;
+        }
+        i += 1;
+        if s == 0 {
+            i = past_whole(text, i);
         }
     }
     s == 0

@@ -3,7 +3,7 @@ ghost use mathlib.Core.Path.{_≡_};
 ghost use Rattle.fast_text.specs.Fast.{leadOf, tailOf, pairOf};
 
 // Whether a byte starts such a character.
-pub(crate) fn lead(b: u8) -> bool
+fn lead(b: u8) -> bool
     ensures { λ r. ⌜ r ≡ leadOf b ⌝ }
 {
     if b < 0xE1 {
@@ -16,7 +16,7 @@ pub(crate) fn lead(b: u8) -> bool
 }
 
 // Whether a byte is a tail, 80..BF.
-pub(crate) fn tail(b: u8) -> bool
+fn tail(b: u8) -> bool
     ensures { λ r. ⌜ r ≡ tailOf b ⌝ }
 {
     b / 64 == 2

@@ -21,7 +21,7 @@ fn packed(bytes: &[u8], i: usize) -> u32
     let b = wide(bytes[i + 1]);
     let c = wide(bytes[i + 2]);
     let d = wide(bytes[i + 3]);
-    a * 0x1000000 + b * 0x10000 + c * 0x100 + d
+    d + c * 0x100 + b * 0x10000 + a * 0x1000000
 }
 
 // The same, and 0 where they are not all there.
