@@ -2,14 +2,10 @@
 use Prim.Native.Nat.{ℕ, _+_, _-_, _*_, _/_, _%_, _^_, _<_, _≤_}
 use mathlib.Core.Path.{_≡_}
 use native.Mathlib.Omega.{arith}
-use native.Mathlib.Nat.{one-mul, mod-lt, mod-eq-of-lt}
-use lib.Pow.{pow-pos, pow-lt, shl-exact}
+use native.Mathlib.Nat.{mod-lt}
+use lib.Pow.{pow-pos, shl-exact}
 use Rattle.laws.specs.Bits.{fieldOf, putField}
 use Rattle.laws.proofs.Bits.{put-sum, put-lt}
-
--- 1 << k
-pub one-shl : {k : ℕ} → k < 32 → 1 * 2 ^ k % 2 ^ 32 ≡ 2 ^ k
-one-shl {k} h = rw one-mul (mod-eq-of-lt (pow-lt {j = 32} h))
 
 module _ (w at span v r : ℕ) (fits : at + span ≤ 32) (hv : v < 2 ^ span) (got : r ≡ fieldOf w at span) where
   -- what was there and what is to be there, shifted to their place

@@ -18,9 +18,6 @@ use Rattle.crossing.specs.declared.numbers.Numbers.{Numbers}
 use Rattle.crossing.specs.declared.given.Given.the-variants as G
 use Rattle.crossing.specs.Given.{within, valuesFrom, givenKind}
 
-pub told : {a b d : Bool} → a ≡ b → a ≡ d → b ≡ d
-told e t = sym e ∙ t
-
 module _ (k : Kind) (c : Numbers) where
   pub given-large : fits (layout k .fields) (parts (valuesFrom k c)) ≡ false → givenKind k c ≡ G.Refused NumberTooLarge
   unfolding givenKind

@@ -1,11 +1,9 @@
 -- Numbers held to their limits, one a turn. Closed by taking both lists apart where the turn stands.
-use Prim.Native.Nat.{ℕ, suc, zero, _+_, _<_, _≤_}
-use mathlib.Core.Path.{_≡_, refl}
+use Prim.Native.Nat.{ℕ, _+_, _<_, _≤_}
+use mathlib.Core.Path.{_≡_}
 use mathlib.Core.Bool.{true, false}
 use mathlib.Core.List.{List}
-use native.Mathlib.Omega.{arith}
 use native.Mathlib.Numerals.{add-one}
-use lib.Dec.{ltb}
 use lib.ListN.{length, getD, drop, drop-of-length-le}
 use lib.Seq.{drop-cons}
 use borrow.Author.Tests.{lt-ltb, le-ltb}
@@ -28,11 +26,3 @@ module _ (ns ls : List ℕ) (i : ℕ) where
   pub within-good : i < length ns → i < length ls → getD ns i 0 < getD ls i 0 → within (drop (i + 1) ns) (drop (i + 1) ls) ≡ within (drop i ns) (drop i ls)
   unfolding within both
   within-good h l b = rw (drop-cons ns i 0 h, drop-cons ls i 0 l, lt-ltb (getD ns i 0) (getD ls i 0) b, add-one)
-
--- a number that is none of the first four
-pub above-three : (n : ℕ) → (n ≡ 0 → ⊥) → (n ≡ 1 → ⊥) → (n ≡ 2 → ⊥) → (n ≡ 3 → ⊥) → ltb 3 n ≡ true
-above-three zero a b c d = absurd (a refl)
-above-three (suc zero) a b c d = absurd (b refl)
-above-three (suc (suc zero)) a b c d = absurd (c refl)
-above-three (suc (suc (suc zero))) a b c d = absurd (d refl)
-above-three (suc (suc (suc (suc n)))) a b c d = lt-ltb 3 (suc (suc (suc (suc n)))) (omega arith)

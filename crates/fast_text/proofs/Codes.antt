@@ -4,14 +4,14 @@ use mathlib.Core.Path.{_≡_, refl, sym, subst, _∙_}
 use mathlib.Core.Bool.{Bool, true, false, not, _&&_}
 use mathlib.Core.Option.{none, some}
 use mathlib.Core.List.{List, [], _∷_}
-use native.Mathlib.Nat.{mod-eq-of-lt}
 use native.Mathlib.Omega.{arith}
 use lib.Dec.{T, eqb, eqb→eq, eqb·suc-zero, ltb, ltb→lt, leb}
 use lib.ListN.{getD}
 use borrow.Author.Tests.{eqb-true, leb-true, eq-eqb, ne-eqb, le-leb}
 use Rattle.laws.specs.Pick.{pick}
 use Rattle.laws.proofs.Pick.{true-false, split}
-use Rattle.laws.proofs.Bytes.{eachBelow, at, and-left, and-right, and-l, and-r}
+use Rattle.laws.proofs.Bytes.{eachBelow, at, and-left, and-right, and-l, and-r, implied, implied-holds}
+use Rattle.laws.proofs.Bits.{two-high}
 use Rattle.utf8.specs.Utf8.{_‥_, tail, after}
 use Rattle.utf8.proofs.Same.{same-ranges, same, same-eq}
 use Rattle.laws.specs.Bits.{wordOf}
@@ -169,10 +169,6 @@ plain-given b h = go (eqb b 0)
 
 -- ---- a character of three bytes: its first byte opens it, and two tails end it
 
-implied : Bool → Bool → Bool
-implied true b = b
-implied false b = true
-
 -- where the condition holds, the state is as told, zeros dropped or not
 open-test : ℕ → Bool
 open-test b = implied (leadOf b) (eqb (stepOf 0 b) 12 && eqb (givenOf 0 b) 12)
@@ -183,11 +179,6 @@ first-test b = implied (tailOf b) (eqb (stepOf 12 b) 6 && eqb (givenOf 12 b) 6)
 last-test : ℕ → Bool
 last-test b = implied (tailOf b) (eqb (stepOf 6 b) 0 && eqb (givenOf 6 b) 0)
 
-implied-holds : (a b : Bool) → a ≡ true → T (implied a b) → T b
-unfolding implied
-implied-holds true b e t = t
-implied-holds false b e t = absurd (subst T (sym e) tt)
-
 pub record Leads (s b next : ℕ) : Type 0 where
   pub step : stepOf s b ≡ next
   pub given : givenOf s b ≡ next
@@ -197,15 +188,15 @@ both-lead s b next t =
     record { step = eqb→eq (stepOf s b) next (and-left (eqb (stepOf s b) next) (eqb (givenOf s b) next) t); given = eqb→eq (givenOf s b) next (and-right (eqb (stepOf s b) next) (eqb (givenOf s b) next) t) }
 
 pub opens : (b : ℕ) → b < 256 → leadOf b ≡ true → Leads 0 b 12
-unfolding open-test implied givenOf stepOf rowOf
+unfolding open-test givenOf stepOf rowOf
 opens b l e = both-lead 0 b 12 (implied-holds (leadOf b) _ e (at open-test 256 tt b l))
 
 pub tail-first : (b : ℕ) → b < 256 → tailOf b ≡ true → Leads 12 b 6
-unfolding first-test implied givenOf stepOf rowOf
+unfolding first-test givenOf stepOf rowOf
 tail-first b l e = both-lead 12 b 6 (implied-holds (tailOf b) _ e (at first-test 256 tt b l))
 
 pub tail-last : (b : ℕ) → b < 256 → tailOf b ≡ true → Leads 6 b 0
-unfolding last-test implied givenOf stepOf rowOf
+unfolding last-test givenOf stepOf rowOf
 tail-last b l e = both-lead 6 b 0 (implied-holds (tailOf b) _ e (at last-test 256 tt b l))
 
 pub three-octets : (w : ℕ) → threeOf w ≡ true → (tailOf (octetOf w 1) ≡ true) × (tailOf (octetOf w 2) ≡ true) × (leadOf (octetOf w 0) ≡ true)
@@ -239,19 +230,11 @@ three-in w e =
       other = λ q. true-false (sym (rw (eq-eqb first 0xED q) at (and-r (leb first 0xEF) (not (eqb first 0xED)) rest)));
     }
 
--- the two high bits of an octet, found in the word
-two-high : (x : ℕ) → x % 256 / 64 ≡ x / 64 % 4
-two-high x = omega arith
-
 pub second-high : (w : ℕ) → w / 0x400000 % 4 ≡ 2 → w / 0x10000 % 256 / 64 ≡ 2
 second-high w e = let d : w / 0x10000 / 64 ≡ w / 0x400000 = omega arith in two-high (w / 0x10000) ∙ rw d e
 
 pub third-high : (w : ℕ) → w / 0x4000 % 4 ≡ 2 → w / 0x100 % 256 / 64 ≡ 2
 third-high w e = let d : w / 0x100 / 64 ≡ w / 0x4000 = omega arith in two-high (w / 0x100) ∙ rw d e
-
--- the highest octet is all that is left of a word
-pub first-octet : (w : ℕ) → w < 2 ^ 32 → w / 0x1000000 % 256 ≡ w / 0x1000000
-first-octet w h = mod-eq-of-lt (let l : w / 0x1000000 < 256 = omega arith in l)
 
 -- between the words that start with EC and with EE there are those with ED alone
 gap : (a b c d : ℕ) → b / 64 ≡ 2 → c / 64 ≡ 2 → d < 256 → (a ≡ 0xED → ⊥) → 0xECBFBFFF < wordOf a b c d → wordOf a b c d < 0xEE808000 → ⊥
@@ -290,13 +273,3 @@ pair-leads s a b la lb e = split (eqb s 0) none (λ x. split (eqb s 6) (one x) (
     two x y z =
         let t : tailOf a && tailOf b ≡ true = rw (x, y, z) at e in
         rw (eqb-true s 12 z, tail-first a la (and-l (tailOf a) (tailOf b) t) .step) (tail-last b lb (and-r (tailOf a) (tailOf b) t) .step)
-
--- ---- a number that is none of the first k, as the last arm of a match knows it
-
-abbrev pub Missed : ℕ → ℕ → Type 0
-Missed zero n = Unit
-Missed (suc k) n = Missed k n × (n ≡ k → ⊥)
-
-pub missed : (k n : ℕ) → Missed k n → k ≤ n
-missed zero n m = omega arith
-missed (suc k) n m = let h = missed k n (m .0) in let d = m .1 in omega arith

@@ -1,51 +1,27 @@
 -- The words of packets with what is not text masked, over any offset: without their zeros their octets are the text. Closed by octets of a word and division of a byte's number by the capacity.
 use Prim.Native.Nat.{ℕ, zero, suc, _+_, _-_, _*_, _/_, _%_, _^_, _≤_, _<_}
-use mathlib.Core.Path.{_≡_, refl, sym, ap, ap₂, _∙_}
+use mathlib.Core.Path.{_≡_, sym, ap, ap₂, _∙_}
 use mathlib.Core.Logic.{⊎-elim}
-use mathlib.Core.List.{List, [], _∷_, _++_}
-use native.Mathlib.Nat.{zero-add, add-zero, add-comm, suc-mul, zero-mul, mul-zero, mod-lt, lt-of-lt-of-le, div-eq-of-lt, mod-eq-of-lt, add-div-left, add-mod-left, sub-zero}
+use mathlib.Core.List.{List, [], _++_}
+use native.Mathlib.Nat.{zero-add, add-zero, zero-mul, mod-lt, lt-of-lt-of-le, div-eq-of-lt, sub-zero}
 use native.Mathlib.Omega.{arith}
 use lib.Dec.{eqb}
-use lib.Pow.{pow-pos, pow-mono, field, mod-mod-pow}
+use lib.Pow.{pow-pos, pow-mono}
 use lib.Bits.{bitAnd, and-mask}
 use lib.ListN.{getD}
 use borrow.Author.Tests.{lt-ltb, le-ltb}
-use Rattle.laws.specs.Bits.{fieldOf}
 use Rattle.laws.specs.Lists.{tabulate, nonzero}
 use Rattle.laws.proofs.Pick.{below}
-use Rattle.laws.proofs.Lists.{nonzero-append, pad-dropped}
+use Rattle.laws.proofs.Bits.{low-field}
+use Rattle.laws.proofs.Lists.{nonzero-append, pad-dropped, tabulate-same, tabulate-join}
 use Rattle.utf8.specs.Utf8.{firstBad}
 use Rattle.text.specs.Octets.{octetOf}
 use Rattle.text.specs.Bytes.{textByte, allBytes, textOf}
+use Rattle.text.proofs.Bytes.{bytesFrom, bytes-packet}
 use Rattle.fast_text.specs.Fast.{isGood, bitsOf, maskOf, fourOf}
 use Rattle.fast_text.proofs.Stands.{Stands, stands-first, stands-end, read-four}
 
--- ---- tabulated lists
-
-tabulate-same : (n : ℕ) (f g : ℕ → ℕ) → ((i : ℕ) → i < n → f i ≡ g i) → tabulate n f ≡ tabulate n g
-unfolding tabulate
-tabulate-same zero f g h = refl
-tabulate-same (suc n) f g h = ap₂ (λ (x : ℕ) (l : List ℕ). x ∷ l) (h 0 (omega arith)) (tabulate-same n (λ i. f (suc i)) (λ i. g (suc i)) (λ i l. h (suc i) (omega arith)))
-
--- one list after another
-tabulate-join : (a b : ℕ) (f g h : ℕ → ℕ) → ((i : ℕ) → i < a → f i ≡ g i) → ((i : ℕ) → i < b → f (a + i) ≡ h i) → tabulate (a + b) f ≡ tabulate a g ++ tabulate b h
-unfolding tabulate
-tabulate-join zero b f g h p q = rw zero-add (tabulate-same b f h (λ i l. ap f (sym (zero-add i)) ∙ q i l))
-tabulate-join (suc a) b f g h p q =
-    let e : suc a + b ≡ suc (a + b) = omega arith in
-    rw e
-    (ap₂ (λ (x : ℕ) (l : List ℕ). x ∷ l) (p 0 (omega arith))
-    (tabulate-join a b (λ i. f (suc i)) (λ i. g (suc i)) h (λ i l. p (suc i) (omega arith)) (λ i l. let d : suc (a + i) ≡ suc a + i = omega arith in ap f d ∙ q i l)))
-
 -- ---- a word of which only the last n octets are left
-
--- the low bits of a word have all its fields that lie in them
-low-field : (w a at span : ℕ) → at + span ≤ a → fieldOf (w % 2 ^ a) at span ≡ fieldOf w at span
-low-field w a at span h =
-    let e : a - (span + at) + (span + at) ≡ a = omega arith in
-    sym (field (w % 2 ^ a) span at)
-    ∙ ap (λ (t : ℕ). t / 2 ^ at) (ap (λ (t : ℕ). w % 2 ^ t % 2 ^ (span + at)) (sym e) ∙ mod-mod-pow w (a - (span + at)) (span + at))
-    ∙ field w span at
 
 bits-few : (n j : ℕ) → j + n < 4 → bitsOf n ≤ 24 - j * 8
 unfolding bitsOf
@@ -97,23 +73,6 @@ module _ (ws : List ℕ) (offset : ℕ) where
       ap nonzero (ap (λ (n : ℕ). tabulate n (shownOctet p)) e ∙ tabulate-join (16 - cap) cap (shownOctet p) (λ i. getD [] i 0) (textByte ws cap p) (hidden p) (seen p))
       ∙ nonzero-append (tabulate (16 - cap) (λ i. getD [] i 0)) (tabulate cap (textByte ws cap p))
       ∙ ap (λ (l : List ℕ). l ++ nonzero (tabulate cap (textByte ws cap p))) (pad-dropped [] (16 - cap) (omega arith))
-
--- ---- the text bytes of n packets from packet p on
-
-abbrev bytesFrom : List ℕ → ℕ → ℕ → ℕ → List ℕ
-bytesFrom ws cap p n = tabulate (n * cap) (λ m. textByte ws cap (p + m / cap) (m % cap))
-
-some-text : (n cap i : ℕ) → i < n * cap → 0 < cap
-some-text n zero i h = absurd (omega (arith, mul-zero n))
-some-text n (suc cap) i h = omega arith
-
--- those of packet p, and those of the packets after it
-bytes-packet : (ws : List ℕ) (cap p n : ℕ) → bytesFrom ws cap p (suc n) ≡ tabulate cap (textByte ws cap p) ++ bytesFrom ws cap (suc p) n
-bytes-packet ws cap p n =
-    rw (suc-mul, add-comm (n * cap) cap)
-    (tabulate-join cap (n * cap) (λ m. textByte ws cap (p + m / cap) (m % cap)) (textByte ws cap p) (λ m. textByte ws cap (suc p + m / cap) (m % cap))
-    (λ i l. rw (div-eq-of-lt l, mod-eq-of-lt l, add-zero))
-    (λ i l. let e : p + (i / cap + 1) ≡ suc p + i / cap = omega arith in rw (add-div-left i (some-text n cap i l), add-mod-left cap i, e)))
 
 module _ (ws : List ℕ) (offset : ℕ) where
   shown-bytes : (n p : ℕ) → nonzero (shownFrom ws offset p n) ≡ nonzero (bytesFrom ws (14 - offset) p n)

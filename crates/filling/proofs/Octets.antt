@@ -6,6 +6,7 @@ use native.Mathlib.Omega.{arith}
 use native.Mathlib.Nat.{mul-le-mul, add-zero}
 use lib.ListN.{getD}
 use Rattle.laws.specs.Bits.{wordOf}
+use Rattle.laws.proofs.Bits.{high-two}
 use Rattle.text.specs.Octets.{due}
 use Rattle.text.specs.Written.{octetAt, wordIn}
 use Rattle.text.proofs.Written.{octet-head, octet-text}
@@ -40,9 +41,6 @@ module _ (text : List ℕ) (head : ℕ → ℕ) (offset n p : ℕ) (room : offse
     word-of-text at e = rw (e, in-text (q * 4) h, byte-of 1, byte-of 2, byte-of 3)
 
 -- ---- the first word
-high-two : (a b c d : ℕ) → c < 256 → d < 256 → wordOf a b c d / 0x10000 ≡ a * 256 + b
-high-two a b c d hc hd = omega arith
-
 module _ (text : List ℕ) (head : ℕ → ℕ) (offset n p h : ℕ) (e : h ≡ head (due n p)) (small : h < 2 ^ 32) where
   -- the first two of four bytes
   pub two-bytes : (w : ℕ) → ((k : ℕ) → getD text k 0 < 256) → offset ≡ 0 → w ≡ wordOf (getD text (p * (14 - offset)) 0) (getD text (p * (14 - offset) + 1) 0) (getD text (p * (14 - offset) + 2) 0) (getD text (p * (14 - offset) + 3) 0) → h / 0x10000 * 0x10000 + w / 0x10000 ≡ wordIn text head (14 - offset) n p 0

@@ -13,7 +13,7 @@ use Rattle.laws.specs.Bits.{putField}
 use Rattle.laws.proofs.Bits.{put-lt}
 use Rattle.text.specs.Written.{written, eachFirst}
 use Rattle.slots.specs.Slots.{Slot, put, putAll, fits}
-use Rattle.filling.specs.Filling.{putSafe, putIn, putEach, formatted, fillText}
+use Rattle.filling.specs.Filling.{putSafe, putIn, putEach, formatted, fillText, putIns}
 
 module _ (w at span v : ℕ) where
   pub safe-put : at + span ≤ 32 → v < 2 ^ span → putSafe w at span v ≡ putField w at span v
@@ -53,11 +53,7 @@ pub in-put : {K : Type 0} (s : Slot K) (v : ℕ) (ws : List ℕ) → s .at + s .
 unfolding putIn put
 in-put s v ws h hv = ap (set ws (s .word)) (safe-put (getD ws (s .word) 0) (s .at) (s .span) v h hv)
 
--- ---- a table put slot by slot: the last slot first
-unfoldable pub putIns : {K : Type 0} → List (Slot K) → (K → ℕ) → List ℕ → List ℕ
-putIns [] v ws = ws
-putIns (s ∷ ss) v ws = putIn (s .word) (s .at) (s .span) (v (s .key)) (putIns ss v ws)
-
+-- ---- a table put slot by slot
 -- each slot lies within a word
 unfoldable pub inWord : {K : Type 0} → List (Slot K) → Bool
 inWord [] = true

@@ -7,6 +7,7 @@ use lib.Dec.{ltb, leb}
 use Rattle.laws.specs.Pick.{pick, both}
 use Rattle.laws.specs.Bits.{putField}
 use Rattle.laws.specs.Lists.{upTo}
+use Rattle.slots.specs.Slots.{Slot}
 use Rattle.text.specs.Written.{wholeWords, written, eachFirst}
 
 -- a word with a number in a field; as it was where it has no such bits, or where the number is too large for them
@@ -16,6 +17,11 @@ putSafe w at span v = pick (ltb 32 (at + span)) w (pick (ltb v (2 ^ span)) (putF
 -- the same in one word of a buffer
 unfoldable pub putIn : ℕ → ℕ → ℕ → ℕ → List ℕ → List ℕ
 putIn word at span v ws = set ws word (putSafe (getD ws word 0) at span v)
+
+-- a table put slot by slot: the last slot first
+unfoldable pub putIns : {K : Type 0} → List (Slot K) → (K → ℕ) → List ℕ → List ℕ
+putIns [] v ws = ws
+putIns (s ∷ ss) v ws = putIn (s .word) (s .at) (s .span) (v (s .key)) (putIns ss v ws)
 
 -- numbers in the septets of a word, one an octet; octet 0 is the highest
 unfoldable pub putSeptets : ℕ → ℕ → List ℕ → List ℕ → List ℕ

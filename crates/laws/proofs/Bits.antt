@@ -1,4 +1,4 @@
--- Laws of a field, over its lowest bit and its span: got and put, fields apart. Closed by `put-sum`, from which the rest is linear.
+-- Laws of a field, over its lowest bit and its span: got and put, fields apart; and of the octets of a word. Closed by `put-sum`, from which the rest is linear.
 use Prim.Native.Nat.{ℕ, _+_, _-_, _*_, _/_, _%_, _^_, _<_, _≤_}
 use mathlib.Core.Path.{_≡_, sym, ap, subst, _∙_}
 use mathlib.Core.Logic.{_⊎_, inl, inr}
@@ -6,11 +6,11 @@ use native.Mathlib.Omega.{arith}
 use native.Mathlib.Nat.{one-mul, mod-eq-of-lt, mul-assoc, add-comm, add-mul, mod-lt, mul-comm}
 use lib.Pow.{pow-pos, pow-lt, pow-add, shr-lt, shr-shr, field, mod-mod-pow, split}
 use lib.Arith.{digits-lt, digits-div, digits-mod}
-use Rattle.laws.specs.Bits.{fieldOf, putField}
+use Rattle.laws.specs.Bits.{fieldOf, putField, wordOf}
 
--- 1 << k in 64 bits
-pub one-shl : {k : ℕ} → k ≤ 32 → 1 * 2 ^ k % 2 ^ 64 ≡ 2 ^ k
-one-shl {k} h = rw one-mul (mod-eq-of-lt (pow-lt {j = 64} (omega arith)))
+-- 1 << k in n bits
+pub one-shl : {k : ℕ} (n : ℕ) → k < n → 1 * 2 ^ k % 2 ^ n ≡ 2 ^ k
+one-shl n h = rw one-mul (mod-eq-of-lt (pow-lt {j = n} h))
 
 -- the field and what is below it, under the next bit
 under : (w at span v : ℕ) → v < 2 ^ span → v * 2 ^ at + w % 2 ^ at < 2 ^ (at + span)
@@ -104,3 +104,32 @@ put-swap w at span v at′ span′ v′ h h′ d =
   where
     sums : (x y z u a b c e : ℕ) → x + a ≡ y + b → y + c ≡ w + e → z + c ≡ u + e → u + a ≡ w + b → x ≡ z
     sums x y z u a b c e p q r s = omega arith
+
+-- ---- words of which some bits are the same
+-- the low bits of a word have all its fields that lie in them
+pub low-field : (w a at span : ℕ) → at + span ≤ a → fieldOf (w % 2 ^ a) at span ≡ fieldOf w at span
+low-field w a at span h =
+    let e : a - (span + at) + (span + at) ≡ a = omega arith in
+    sym (field (w % 2 ^ a) span at)
+    ∙ ap (λ (t : ℕ). t / 2 ^ at) (ap (λ (t : ℕ). w % 2 ^ t % 2 ^ (span + at)) (sym e) ∙ mod-mod-pow w (a - (span + at)) (span + at))
+    ∙ field w span at
+
+-- words that are the same from bit b on have the same fields there
+pub same-above : (w v b at span : ℕ) → b ≤ at → w / 2 ^ b ≡ v / 2 ^ b → fieldOf w at span ≡ fieldOf v at span
+same-above w v b at span h e =
+    let i : b + (at - b) ≡ at = omega arith in
+    let g : (x : ℕ) → x / 2 ^ at ≡ x / 2 ^ b / 2 ^ (at - b) = λ x. rw (shr-shr, i) in
+    ap (λ (t : ℕ). t % 2 ^ span) (g w ∙ ap (λ (t : ℕ). t / 2 ^ (at - b)) e ∙ sym (g v))
+
+-- ---- octets of a word
+-- the two high bits of an octet, found in the word
+pub two-high : (x : ℕ) → x % 256 / 64 ≡ x / 64 % 4
+two-high x = omega arith
+
+-- the highest octet is all that is left of a word
+pub first-octet : (w : ℕ) → w < 2 ^ 32 → w / 0x1000000 % 256 ≡ w / 0x1000000
+first-octet w h = mod-eq-of-lt (let l : w / 0x1000000 < 256 = omega arith in l)
+
+-- the two high octets of four
+pub high-two : (a b c d : ℕ) → c < 256 → d < 256 → wordOf a b c d / 0x10000 ≡ a * 256 + b
+high-two a b c d hc hd = omega arith

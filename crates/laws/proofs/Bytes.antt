@@ -1,5 +1,5 @@
--- What holds of every number below n: a test that antt computes at each, and what it tells of one. By induction on n.
-use Prim.Native.Nat.{ℕ, zero, suc, _<_}
+-- What holds of every number below n: a test that antt computes at each, and what it tells of one; and a number that is none of them. By induction on n.
+use Prim.Native.Nat.{ℕ, zero, suc, _<_, _≤_}
 use mathlib.Core.Path.{_≡_, refl, sym, subst}
 use mathlib.Core.Bool.{Bool, true, false, _&&_}
 use native.Mathlib.Nat.{not-suc-le-zero}
@@ -36,3 +36,21 @@ at f (suc n) t k h = go (at f n (and-right (f n) (eachBelow f n) t) k) (ℕ-disc
     go : (k < n → T (f k)) → Dec (k ≡ n) → T (f k)
     go ih (yes e) = subst (λ (m : ℕ). T (f m)) (sym e) (and-left (f n) (eachBelow f n) t)
     go ih (no e) = ih (omega arith)
+
+-- ---- a test that is asked for only where another holds
+abbrev pub implied : Bool → Bool → Bool
+implied true b = b
+implied false b = true
+
+pub implied-holds : (a b : Bool) → a ≡ true → T (implied a b) → T b
+implied-holds true b e t = t
+implied-holds false b e t = absurd (subst T (sym e) tt)
+
+-- ---- a number that is none of the first k, as the last arm of a match knows it
+abbrev pub Missed : ℕ → ℕ → Type 0
+Missed zero n = Unit
+Missed (suc k) n = Missed k n × (n ≡ k → ⊥)
+
+pub missed : (k n : ℕ) → Missed k n → k ≤ n
+missed zero n m = omega arith
+missed (suc k) n m = let h = missed k n (m .0) in let d = m .1 in omega arith

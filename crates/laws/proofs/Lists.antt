@@ -1,16 +1,18 @@
--- Laws of the lists of specs/Lists.antt, over the function that makes them. By induction on the list or on the count.
-use Prim.Native.Nat.{ℕ, zero, suc, _+_, _<_, _≤_}
-use mathlib.Core.Path.{_≡_, refl, sym, ap, _∙_}
+-- Laws of the lists of specs/Lists.antt, over the function that makes them; what is left of a list, and stores. By induction on the list or on the count.
+use Prim.Native.Nat.{ℕ, zero, suc, _+_, _*_, _<_, _≤_}
+use mathlib.Core.Path.{_≡_, refl, sym, ap, ap₂, _∙_}
 use mathlib.Core.Bool.{Bool, true, false}
 use mathlib.Core.List.{List, [], _∷_, _++_}
 use native.Mathlib.Omega.{arith}
+use native.Mathlib.Nat.{zero-add, add-zero}
 use native.Mathlib.Numerals.{add-one}
-use lib.ListN.{length, getD, set, take}
-use lib.Seq.{ext-getD}
+use lib.ListN.{length, getD, set, take, drop, drop-of-length-le, length-append}
+use lib.Seq.{ext-getD, drop-cons, sets, set-out, set-comm}
 use lib.Dec.{eqb}
 use borrow.Author.Tests.{eq-eqb, ne-eqb}
 use Rattle.laws.specs.Pick.{pick}
-use Rattle.laws.specs.Lists.{tabulate, upTo, nonzero}
+use Rattle.laws.specs.Lists.{tabulate, upTo, nonzero, each}
+use Rattle.laws.proofs.Pick.{never}
 
 -- ---- tabulate
 pub length-tabulate : (n : ℕ) (f : ℕ → ℕ) → length (tabulate n f) ≡ n
@@ -29,6 +31,21 @@ pub tabulate-ext : (xs : List ℕ) (n : ℕ) (f : ℕ → ℕ) → length xs ≡
 tabulate-ext xs n f len all =
     ext-getD 0 xs (tabulate n f) (len ∙ sym (length-tabulate n f))
     (λ k h. let l : k < n = omega arith in all k l ∙ sym (getD-tabulate n f k l))
+
+pub tabulate-same : (n : ℕ) (f g : ℕ → ℕ) → ((i : ℕ) → i < n → f i ≡ g i) → tabulate n f ≡ tabulate n g
+unfolding tabulate
+tabulate-same zero f g h = refl
+tabulate-same (suc n) f g h = ap₂ (λ (x : ℕ) (l : List ℕ). x ∷ l) (h 0 (omega arith)) (tabulate-same n (λ i. f (suc i)) (λ i. g (suc i)) (λ i l. h (suc i) (omega arith)))
+
+-- one tabulated list after another
+pub tabulate-join : (a b : ℕ) (f g h : ℕ → ℕ) → ((i : ℕ) → i < a → f i ≡ g i) → ((i : ℕ) → i < b → f (a + i) ≡ h i) → tabulate (a + b) f ≡ tabulate a g ++ tabulate b h
+unfolding tabulate
+tabulate-join zero b f g h p q = rw zero-add (tabulate-same b f h (λ i l. ap f (sym (zero-add i)) ∙ q i l))
+tabulate-join (suc a) b f g h p q =
+    let e : suc a + b ≡ suc (a + b) = omega arith in
+    rw e
+    (ap₂ (λ (x : ℕ) (l : List ℕ). x ∷ l) (p 0 (omega arith))
+    (tabulate-join a b (λ i. f (suc i)) (λ i. g (suc i)) h (λ i l. p (suc i) (omega arith)) (λ i l. let d : suc (a + i) ≡ suc a + i = omega arith in ap f d ∙ q i l)))
 
 -- ---- upTo: a slice that a loop fills
 pub length-upTo : (i : ℕ) (f : ℕ → ℕ) (ws : List ℕ) → length (upTo i f ws) ≡ length ws
@@ -85,6 +102,10 @@ upTo-take (suc n) f [] h = absurd (omega arith)
 upTo-take (suc n) f (w ∷ ws) h = ap (λ (l : List ℕ). f zero ∷ l) (upTo-take n (λ k. f (suc k)) ws (omega arith))
 
 -- ---- nonzero: which elements are dropped, and that the others keep their order
+pub nonzero-none : nonzero [] ≡ []
+unfolding nonzero
+nonzero-none = refl
+
 pub nonzero-zero : (x : ℕ) (xs : List ℕ) → x ≡ 0 → nonzero (x ∷ xs) ≡ nonzero xs
 unfolding nonzero
 nonzero-zero x xs e = rw (eq-eqb x 0 e)
@@ -122,3 +143,38 @@ unfolding nonzero tabulate
 pad-dropped [] n h = zeros-dropped n
 pad-dropped (x ∷ xs) zero h = absurd (omega arith)
 pad-dropped (x ∷ xs) (suc n) h = rw (pad-dropped xs n (omega arith))
+
+-- ---- what is left of a list
+-- the element at i, and the rest
+pub drop-more : (xs : List ℕ) (i : ℕ) → i < length xs → drop i xs ≡ getD xs i 0 ∷ drop (i + 1) xs
+drop-more xs i h = rw add-one (drop-cons xs i 0 h)
+
+-- the list of the element at i, and those of the rest; none are left at the end
+pub each-more : (f : ℕ → List ℕ) (xs : List ℕ) (i : ℕ) → i < length xs → each f (drop i xs) ≡ f (getD xs i 0) ++ each f (drop (i + 1) xs)
+unfolding each
+each-more f xs i h = rw (drop-more xs i h)
+
+pub each-none : (f : ℕ → List ℕ) (xs : List ℕ) (i : ℕ) → length xs ≤ i → each f (drop i xs) ≡ []
+unfolding each
+each-none f xs i h = rw (drop-of-length-le xs h)
+
+-- lists of at most k elements each
+pub each-length : (f : ℕ → List ℕ) (k : ℕ) → ((x : ℕ) → length (f x) ≤ k) → (xs : List ℕ) → length (each f xs) ≤ length xs * k
+unfolding each
+each-length f k h [] = omega arith
+each-length f k h (x ∷ xs) = rw length-append (omega (arith, h x, each-length f k h xs))
+
+-- ---- stores of a list, its last element first
+pub sets-last : (a o : List ℕ) (i b : ℕ) → sets o i (a ++ b ∷ []) ≡ sets (set o (i + length a) b) i a
+sets-last [] o i b = rw add-zero
+sets-last (x ∷ a) o i b =
+    let e : suc i + length a ≡ i + suc (length a) = omega arith in
+    sets-last a (set o i x) (suc i) b ∙ ap (λ (j : ℕ). sets (set (set o i x) j b) (suc i) a) e ∙ ap (λ (l : List ℕ). sets l (suc i) a) (set-comm o i (i + suc (length a)) x b (λ q. omega arith))
+
+pub sets-out : (a o : List ℕ) (i : ℕ) → length o ≤ i → sets o i a ≡ o
+sets-out [] o i h = refl
+sets-out (x ∷ a) o i h = rw (set-out o i x h) (sets-out a o (suc i) (omega arith))
+
+-- ---- a list with an element is not empty
+pub cons-nil : (x : ℕ) (xs : List ℕ) → x ∷ xs ≡ [] → ⊥
+cons-nil x xs e = never (cc)

@@ -2,7 +2,7 @@
 use Prim.Native.Nat.{ℕ, _<_, _≤_}
 use mathlib.Core.Bool.{Bool, true, false, not}
 use mathlib.Core.Logic.{_⊎_, inl, inr}
-use mathlib.Core.Path.{_≡_, refl, sym, ap}
+use mathlib.Core.Path.{_≡_, refl, sym, ap, _∙_}
 use native.Mathlib.Omega.{arith}
 use native.Mathlib.Decide.{decLt}
 use borrow.Author.Tests.{eq-eqb, ne-eqb, eqb-true, not-false}
@@ -38,6 +38,15 @@ split false f g = g refl
 pub picked : {A : Type 0} (P : A → Type 0) (t : Bool) (x y : A) → (t ≡ true → P x) → (t ≡ false → P y) → P (pick t x y)
 picked P true x y f g = f refl
 picked P false x y f g = g refl
+
+-- what a test was found to be, of the same test in other words
+pub told : {a b d : Bool} → a ≡ b → a ≡ d → b ≡ d
+told e t = sym e ∙ t
+
+-- a test as a picked case
+pub is-picked : (b : Bool) → b ≡ pick b true false
+is-picked true = refl
+is-picked false = refl
 
 -- one test holds, or the next
 pub either : (a b : Bool) → pick a true b ≡ true → (a ≡ true) ⊎ (b ≡ true)

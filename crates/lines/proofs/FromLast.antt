@@ -4,12 +4,12 @@ use mathlib.Core.Path.{_≡_, refl, sym, ap, _∙_}
 use mathlib.Core.Logic.{⊎-elim}
 use mathlib.Core.List.{List, [], _∷_, _++_}
 use native.Mathlib.Omega.{arith}
-use native.Mathlib.Nat.{add-zero}
 use native.Mathlib.Numerals.{add-one}
 use lib.ListN.{length, set, length-append, length-set}
-use lib.Seq.{sets, length-sets, set-out, set-comm}
+use lib.Seq.{sets, length-sets, set-out}
 use borrow.Author.Tests.{lt-ltb, le-ltb}
 use Rattle.laws.proofs.Pick.{below}
+use Rattle.laws.proofs.Lists.{sets-last, sets-out}
 use Rattle.lines.specs.Page.{Page, page, put, puts, Wrote}
 use Rattle.lines.specs.Numbers.{digit, decimal}
 use Rattle.lines.proofs.Numbers.{decimal-one, decimal-more}
@@ -36,17 +36,6 @@ last-in (suc k) n h =
 
 pub last-all : (n : ℕ) → lastDigits (length (decimal n)) n ≡ decimal n
 last-all n = last-in n n (omega arith)
-
--- ---- stores of a text, its last byte first
-sets-last : (a o : List ℕ) (i b : ℕ) → sets o i (a ++ b ∷ []) ≡ sets (set o (i + length a) b) i a
-sets-last [] o i b = rw add-zero
-sets-last (x ∷ a) o i b =
-    let e : suc i + length a ≡ i + suc (length a) = omega arith in
-    sets-last a (set o i x) (suc i) b ∙ ap (λ (j : ℕ). sets (set (set o i x) j b) (suc i) a) e ∙ ap (λ (l : List ℕ). sets l (suc i) a) (set-comm o i (i + suc (length a)) x b (λ q. omega arith))
-
-sets-out : (a o : List ℕ) (i : ℕ) → length o ≤ i → sets o i a ≡ o
-sets-out [] o i h = refl
-sets-out (x ∷ a) o i h = rw (set-out o i x h) (sets-out a o (suc i) (omega arith))
 
 -- a byte put is a store, where there is a place and where there is none
 put-set : {i j : ℕ} {o p : List ℕ} {b : ℕ} → Wrote i o (b ∷ []) j p → p ≡ set o i b

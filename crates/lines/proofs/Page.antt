@@ -2,11 +2,8 @@
 use Prim.Native.Nat.{ℕ, _+_, _<_, _≤_}
 use mathlib.Core.Path.{_≡_, refl, sym, ap, _∙_}
 use mathlib.Core.List.{List, [], _∷_, _++_}
-use native.Mathlib.Numerals.{add-one}
-use lib.ListN.{length, getD, set, drop, drop-of-length-le}
-use lib.Seq.{drop-cons}
+use lib.ListN.{length, set}
 use borrow.Author.Tests.{lt-ltb, le-ltb}
-use Rattle.laws.specs.Lists.{each}
 use Rattle.lines.specs.Page.{Page, page, put, puts, Wrote}
 
 -- a text put in two parts leaves what the whole leaves
@@ -56,17 +53,3 @@ left-turn {j = j} {p = p} {a = a} {b} l w e =
 pub left-none : {i j : ℕ} {o text p left : List ℕ} → Left i o text j p left → left ≡ [] → Wrote i o text j p
 unfolding puts
 left-none l e = record { is = rw e at (l .is) }
-
--- ---- what is left of a list
--- the element at i, and the rest
-pub drop-more : (xs : List ℕ) (i : ℕ) → i < length xs → drop i xs ≡ getD xs i 0 ∷ drop (i + 1) xs
-drop-more xs i h = rw add-one (drop-cons xs i 0 h)
-
--- the text of the element at i, and those of the rest; none are left at the end
-pub each-more : (f : ℕ → List ℕ) (xs : List ℕ) (i : ℕ) → i < length xs → each f (drop i xs) ≡ f (getD xs i 0) ++ each f (drop (i + 1) xs)
-unfolding each
-each-more f xs i h = rw (drop-more xs i h)
-
-pub each-none : (f : ℕ → List ℕ) (xs : List ℕ) (i : ℕ) → length xs ≤ i → each f (drop i xs) ≡ []
-unfolding each
-each-none f xs i h = rw (drop-of-length-le xs h)

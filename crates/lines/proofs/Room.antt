@@ -9,10 +9,10 @@ use native.Mathlib.Numerals.{add-one}
 use lib.ListN.{length, set, take, drop, length-set, length-append}
 use lib.Seq.{sets, sets-eq, take-at}
 use borrow.Author.Tests.{lt-ltb, le-ltb}
-use Rattle.laws.specs.Lists.{each}
 use Rattle.laws.proofs.Pick.{below}
+use Rattle.laws.proofs.Lists.{each-length}
 use Rattle.lines.specs.Page.{Page, page, put, puts, Wrote}
-use Rattle.lines.specs.Numbers.{decimal, hexByte, number, shown}
+use Rattle.lines.specs.Numbers.{decimal, hexByte, shown}
 use Rattle.lines.proofs.Numbers.{decimal-one, decimal-more}
 
 -- ---- lengths
@@ -33,12 +33,6 @@ decimal-length (suc k) n h =
 -- one of 64 bits has at most twenty
 pub length-most : (n : ℕ) → n < 2 ^ 64 → length (decimal n) ≤ 20
 length-most n h = decimal-length 19 n (omega arith)
-
--- texts of at most k bytes each
-pub each-length : (f : ℕ → List ℕ) (k : ℕ) → ((x : ℕ) → length (f x) ≤ k) → (xs : List ℕ) → length (each f xs) ≤ length xs * k
-unfolding each
-each-length f k h [] = omega arith
-each-length f k h (x ∷ xs) = rw length-append (omega (arith, h x, each-length f k h xs))
 
 -- bytes in hex: two digits each, and one byte where there are none
 pub shown-length : (xs : List ℕ) → length (shown xs) ≤ length xs * 2 + 1

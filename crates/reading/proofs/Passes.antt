@@ -1,7 +1,7 @@
 -- One pass over a message that is all plain: its turns, and that what it finds is what the rules give. Closed by the laws of a field, and packet by packet.
-use Prim.Native.Nat.{ℕ, zero, suc, _+_, _-_, _*_, _/_, _%_, _^_, _≤_, _<_}
+use Prim.Native.Nat.{ℕ, zero, suc, _+_, _-_, _*_, _≤_, _<_}
 use mathlib.Core.Path.{_≡_, refl, sym, ap, _∙_}
-use mathlib.Core.Bool.{Bool, true, false}
+use mathlib.Core.Bool.{true, false}
 use mathlib.Core.List.{List}
 use native.Mathlib.Omega.{arith}
 use native.Mathlib.Decide.{decLt}
@@ -56,14 +56,11 @@ pub record Like (ws : List ℕ) (offset p : ℕ) : Type 0 where
   pub head : headBits (headAt ws p) offset ≡ headBits (headAt ws 0) offset
   pub plain : plainPacket ws offset p ≡ true
 
-true-not : true ≡ false → ⊥
-true-not e = true-false e
-
 like : (ws : List ℕ) (offset p : ℕ) → likeFirst ws offset p ≡ true → Like ws offset p
 unfolding likeFirst
 like ws offset p e =
-    let a = passed (leb (packetsOf ws) p) false (pick (differ (headBits (headAt ws p) offset) (headBits (headAt ws 0) offset)) false (plainPacket ws offset p)) true (λ q. true-not (sym q)) e in
-    let b = passed (differ (headBits (headAt ws p) offset) (headBits (headAt ws 0) offset)) false (plainPacket ws offset p) true (λ q. true-not (sym q)) (a .1) in
+    let a = passed (leb (packetsOf ws) p) false (pick (differ (headBits (headAt ws p) offset) (headBits (headAt ws 0) offset)) false (plainPacket ws offset p)) true (λ q. true-false (sym q)) e in
+    let b = passed (differ (headBits (headAt ws p) offset) (headBits (headAt ws 0) offset)) false (plainPacket ws offset p) true (λ q. true-false (sym q)) (a .1) in
     record { there = leb-false _ _ (a .0); head = differ-false _ _ (b .0); plain = b .1 }
 
 pub like-there : (ws : List ℕ) (offset p : ℕ) → likeFirst ws offset p ≡ true → p < packetsOf ws

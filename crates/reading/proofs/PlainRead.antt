@@ -1,16 +1,15 @@
 -- What the pass found is what the rules give: a message of its kind. Closed by the fields that like heads share, and plain text.
-use Prim.Native.Nat.{ℕ, _+_, _-_, _*_, _/_, _%_, _^_, _≤_, _<_}
+use Prim.Native.Nat.{ℕ, _+_, _-_, _*_, _%_, _≤_, _<_}
 use mathlib.Core.Path.{_≡_, refl, sym, ap, _∙_}
 use mathlib.Core.Bool.{false}
 use mathlib.Core.List.{List}
 use native.Mathlib.Omega.{arith}
 use lib.ListN.{length, take}
 use lib.Dec.{eqb, lit≤}
-use lib.Pow.{shr-shr}
 use borrow.Author.Tests.{le-ltb}
 use Rattle.laws.specs.Bits.{fieldOf, putField}
 use Rattle.laws.specs.Lists.{map}
-use Rattle.laws.proofs.Bits.{get-above, get-below}
+use Rattle.laws.proofs.Bits.{get-above, get-below, same-above}
 use Rattle.laws.proofs.Pick.{past, eq-differ}
 use Rattle.slots.specs.Slots.{those}
 use Rattle.fast_text.proofs.Plains.{plain-good}
@@ -31,13 +30,6 @@ use Rattle.reading.specs.OnePass.{textBits, headBits, plainText}
 use Rattle.reading.proofs.Bodies.{text-body}
 use Rattle.reading.proofs.Passes.{Plain, plain-seen, plain-front}
 use Rattle.reading.proofs.Repeats.{block-alike}
-
--- words that are the same from bit b on have the same fields there
-same-above : (w v b at span : ℕ) → b ≤ at → w / 2 ^ b ≡ v / 2 ^ b → fieldOf w at span ≡ fieldOf v at span
-same-above w v b at span h e =
-    let i : b + (at - b) ≡ at = omega arith in
-    let g : (x : ℕ) → x / 2 ^ at ≡ x / 2 ^ b / 2 ^ (at - b) = λ x. rw (shr-shr, i) in
-    ap (λ (t : ℕ). t % 2 ^ span) (g w ∙ ap (λ (t : ℕ). t / 2 ^ (at - b)) e ∙ sym (g v))
 
 module _ (w v offset : ℕ) (e : headBits w offset ≡ headBits v offset) where
   bits-few : textBits offset ≤ 16

@@ -8,9 +8,8 @@ use native.Mathlib.Nat.{add-zero}
 use lib.ListN.{getD}
 use lib.Seq.{getD-drop}
 use Rattle.laws.specs.Bits.{fieldOf}
-use Rattle.laws.specs.Pick.{pick}
 use Rattle.laws.specs.First.{first}
-use Rattle.laws.proofs.Pick.{true-false, eq-differ}
+use Rattle.laws.proofs.Pick.{true-false, eq-differ, is-picked}
 use Rattle.slots.specs.Slots.{Slot, get}
 use Rattle.kinds.specs.declared.kind.Kind.{Kind}
 use Rattle.kinds.specs.declared.kind.Kind.the-variants as K
@@ -25,10 +24,6 @@ use Rattle.reading.specs.Bodies.{repeated, fieldsRead}
 -- a packet's first word
 from-head : (ws : List ℕ) (p : ℕ) → getD (packetFrom ws p) 0 0 ≡ headAt ws p
 from-head ws p = getD-drop (p * 4) ws 0 0 ∙ ap (λ (i : ℕ). getD ws i 0) (add-zero (p * 4))
-
-is-picked : (b : Bool) → b ≡ pick b true false
-is-picked true = refl
-is-picked false = refl
 
 block-rule : (ws : List ℕ) (p : ℕ) → brokenBy U.FunctionBlock ws p ≡ otherField (layout K.FunctionBlockName .fields) ws p
 unfolding breaksOf otherField layout get

@@ -1,67 +1,25 @@
 -- The first word of a text packet: the head, and the first text bytes in its low bits. Closed by octets of a word; text starts at octet 2, 3, or past the word.
-use Prim.Native.Nat.{ℕ, zero, suc, _+_, _-_, _*_, _/_, _%_, _^_, _<_, _≤_}
-use mathlib.Core.Path.{_≡_, refl, sym, ap, _∙_}
+use Prim.Native.Nat.{ℕ, zero, suc, _+_, _-_, _*_, _/_, _^_, _<_, _≤_}
+use mathlib.Core.Path.{_≡_, sym, ap, _∙_}
 use mathlib.Core.Bool.{true}
 use mathlib.Core.List.{List, []}
 use native.Mathlib.Omega.{arith}
 use lib.ListN.{getD}
-use lib.Pow.{shr-shr}
-use borrow.Author.Tests.{lt-ltb}
 use Rattle.laws.specs.Bits.{putField, wordOf}
 use Rattle.slots.specs.Slots.{Slot, fits, clear, low, within}
 use Rattle.text.specs.Octets.{octetOf, due}
-use Rattle.text.specs.Written.{headOctet, octetAt, wordIn}
-use Rattle.text.proofs.Written.{octet-head, octet-text}
+use Rattle.text.specs.Written.{wordIn}
 use Rattle.text.proofs.Needed.{due-small}
+use Rattle.text.proofs.First.{octets-of, zero-octet, word-2, word-3, word-4}
 use Rattle.kinds.specs.Layout.{Part, textSlot}
 use Rattle.standard.specs.Heads.{headWord}
 use Rattle.standard.specs.Words.{putWord}
 use Rattle.standard.proofs.OneWord.{word-small, put-head}
 
--- ---- a word from its octets: all of them, or the low ones changed
-octets-of : (w : ℕ) → w < 2 ^ 32 → (wordOf (octetOf w 0) (octetOf w 1) (octetOf w 2) (octetOf w 3) ≡ w) × ((b : ℕ) → wordOf (octetOf w 0) (octetOf w 1) (octetOf w 2) b ≡ w / 256 * 256 + b) × ((b c : ℕ) → wordOf (octetOf w 0) (octetOf w 1) b c ≡ w / 65536 * 65536 + (b * 256 + c))
-unfolding octetOf
-octets-of w h =
-    let p : w / 256 / 256 ≡ w / 65536 = shr-shr w 8 8 in
-    let q : w / 65536 / 256 ≡ w / 16777216 = shr-shr w 16 8 in
-    sums (w / 16777216 % 256) (w / 65536 % 256) (w / 256 % 256) (w / 1 % 256) (w / 16777216) (w / 65536) (w / 256) (omega arith) (omega arith) (omega arith) (omega arith)
-  where
-    sums : (a b c d x y z : ℕ) → x ≡ a → y ≡ x * 256 + b → z ≡ y * 256 + c → w ≡ z * 256 + d → (a * 0x1000000 + b * 0x10000 + c * 0x100 + d ≡ w) × ((e : ℕ) → a * 0x1000000 + b * 0x10000 + c * 0x100 + e ≡ z * 256 + e) × ((e f : ℕ) → a * 0x1000000 + b * 0x10000 + e * 0x100 + f ≡ y * 65536 + (e * 256 + f))
-    sums a b c d x y z p q r s = (omega arith, (λ e. omega arith), λ e f. omega arith)
-
-head-octet : (head j : ℕ) → j < 4 → headOctet head j ≡ octetOf head j
-unfolding headOctet
-head-octet head j h = simp (lt-ltb j 4 h)
-
-zero-octet : (j : ℕ) → j < 4 → octetOf 0 j ≡ 0
-unfolding octetOf
-zero-octet zero h = refl
-zero-octet (suc zero) h = refl
-zero-octet (suc (suc zero)) h = refl
-zero-octet (suc (suc (suc zero))) h = refl
-zero-octet (suc (suc (suc (suc j)))) h = absurd (omega arith)
-
 module _ (text : List ℕ) (small : (i : ℕ) → getD text i 0 < 256) (n p : ℕ) where
   -- what the text has in the first word: the word over an empty head
   abbrev pub lowText : ℕ → ℕ
   lowText from = wordIn text (λ f. 0) (16 - from) n p 0
-
-  -- the octets of the first word, before the text and of it
-  before : (head : ℕ → ℕ) (cap j : ℕ) → j < 4 → j < 16 - cap → octetAt text head cap n p j ≡ octetOf (head (due n p)) j
-  before head cap j h l = octet-head text head cap n p j l ∙ head-octet (head (due n p)) j h
-
-  word-2 : (head : ℕ → ℕ) → wordIn text head 14 n p 0 ≡ wordOf (octetOf (head (due n p)) 0) (octetOf (head (due n p)) 1) (getD text (p * 14 + 0) 0) (getD text (p * 14 + 1) 0)
-  unfolding wordIn
-  word-2 head = rw (before head 14 0 (omega arith) (omega arith), before head 14 1 (omega arith) (omega arith), octet-text text head 14 n p 2 (omega arith), octet-text text head 14 n p 3 (omega arith))
-
-  word-3 : (head : ℕ → ℕ) → wordIn text head 13 n p 0 ≡ wordOf (octetOf (head (due n p)) 0) (octetOf (head (due n p)) 1) (octetOf (head (due n p)) 2) (getD text (p * 13 + 0) 0)
-  unfolding wordIn
-  word-3 head = rw (before head 13 0 (omega arith) (omega arith), before head 13 1 (omega arith) (omega arith), before head 13 2 (omega arith) (omega arith), octet-text text head 13 n p 3 (omega arith))
-
-  word-4 : (head : ℕ → ℕ) (from : ℕ) → 4 ≤ from → from ≤ 15 → wordIn text head (16 - from) n p 0 ≡ wordOf (octetOf (head (due n p)) 0) (octetOf (head (due n p)) 1) (octetOf (head (due n p)) 2) (octetOf (head (due n p)) 3)
-  unfolding wordIn
-  word-4 head from lo hi =
-      rw (before head (16 - from) 0 (omega arith) (omega arith), before head (16 - from) 1 (omega arith) (omega arith), before head (16 - from) 2 (omega arith) (omega arith), before head (16 - from) 3 (omega arith) (omega arith))
 
   -- the head with the text in its low bits, and how far they reach
   abbrev Splits : (ℕ → ℕ) → ℕ → Type 0
@@ -72,20 +30,20 @@ module _ (text : List ℕ) (small : (i : ℕ) → getD text i 0 < 256) (n p : �
     splits-2 =
         let a = small (p * 14 + 0) in
         let b = small (p * 14 + 1) in
-        let z : lowText 2 ≡ getD text (p * 14 + 0) 0 * 256 + getD text (p * 14 + 1) 0 = word-2 (λ f. 0) ∙ rw (zero-octet 0 (omega arith), zero-octet 1 (omega arith)) (omega arith) in
-        (rw z (omega arith), rw (z, word-2 head) (octets-of (head (due n p)) s .2 _ _ ∙ omega arith))
+        let z : lowText 2 ≡ getD text (p * 14 + 0) 0 * 256 + getD text (p * 14 + 1) 0 = word-2 text (λ f. 0) n p ∙ rw (zero-octet 0 (omega arith), zero-octet 1 (omega arith)) (omega arith) in
+        (rw z (omega arith), rw (z, word-2 text head n p) (octets-of (head (due n p)) s .2 _ _ ∙ omega arith))
 
     splits-3 : Splits head 3
     splits-3 =
         let a = small (p * 13 + 0) in
-        let z : lowText 3 ≡ getD text (p * 13 + 0) 0 = word-3 (λ f. 0) ∙ rw (zero-octet 0 (omega arith), zero-octet 1 (omega arith), zero-octet 2 (omega arith)) (omega arith) in
-        (rw z (omega arith), rw (z, word-3 head) (octets-of (head (due n p)) s .1 _ ∙ omega arith))
+        let z : lowText 3 ≡ getD text (p * 13 + 0) 0 = word-3 text (λ f. 0) n p ∙ rw (zero-octet 0 (omega arith), zero-octet 1 (omega arith), zero-octet 2 (omega arith)) (omega arith) in
+        (rw z (omega arith), rw (z, word-3 text head n p) (octets-of (head (due n p)) s .1 _ ∙ omega arith))
 
     splits-4 : (from : ℕ) → 4 ≤ from → from ≤ 15 → Splits head from
     splits-4 from lo hi =
-        let z : lowText from ≡ 0 = word-4 (λ f. 0) from lo hi ∙ rw (zero-octet 0 (omega arith), zero-octet 1 (omega arith), zero-octet 2 (omega arith), zero-octet 3 (omega arith)) in
+        let z : lowText from ≡ 0 = word-4 text (λ f. 0) n p (16 - from) (omega arith) ∙ rw (zero-octet 0 (omega arith), zero-octet 1 (omega arith), zero-octet 2 (omega arith), zero-octet 3 (omega arith)) in
         let q : 32 - from * 8 ≡ 0 = omega arith in
-        (rw (z, q) (omega arith), rw (z, q, word-4 head from lo hi) (octets-of (head (due n p)) s .0 ∙ omega arith))
+        (rw (z, q) (omega arith), rw (z, q, word-4 text head n p (16 - from) (omega arith)) (octets-of (head (due n p)) s .0 ∙ omega arith))
 
     pub first-splits : (from : ℕ) → 2 ≤ from → from ≤ 15 → Splits head from
     first-splits zero lo hi = absurd (omega arith)
@@ -123,6 +81,6 @@ module _ (st n p : ℕ) (hs : st < 0x400) where
   pub empty-first : (from : ℕ) → 2 ≤ from → from ≤ 15 → wordIn [] (headWord st) (16 - from) n p 0 ≡ word
   empty-first zero lo hi = absurd (omega arith)
   empty-first (suc zero) lo hi = absurd (omega arith)
-  empty-first (suc (suc zero)) lo hi = word-2 [] no-small n p (headWord st) ∙ octets .2 0 0 ∙ omega arith
-  empty-first (suc (suc (suc zero))) lo hi = word-3 [] no-small n p (headWord st) ∙ octets .1 0 ∙ omega arith
-  empty-first (suc (suc (suc (suc from)))) lo hi = word-4 [] no-small n p (headWord st) (suc (suc (suc (suc from)))) (omega arith) hi ∙ octets .0
+  empty-first (suc (suc zero)) lo hi = word-2 [] (headWord st) n p ∙ octets .2 0 0 ∙ omega arith
+  empty-first (suc (suc (suc zero))) lo hi = word-3 [] (headWord st) n p ∙ octets .1 0 ∙ omega arith
+  empty-first (suc (suc (suc (suc from)))) lo hi = word-4 [] (headWord st) n p (16 - suc (suc (suc (suc from)))) (omega arith) ∙ octets .0

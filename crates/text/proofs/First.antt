@@ -1,6 +1,6 @@
 -- The first word of a text packet, by where the text starts: at octet 2, 3, or past the word. Closed by octets of a word.
-use Prim.Native.Nat.{ℕ, _+_, _-_, _*_, _/_, _%_, _^_, _<_, _≤_}
-use mathlib.Core.Path.{_≡_, _∙_}
+use Prim.Native.Nat.{ℕ, zero, suc, _+_, _-_, _*_, _/_, _%_, _^_, _<_, _≤_}
+use mathlib.Core.Path.{_≡_, _∙_, refl}
 use mathlib.Core.List.{List}
 use native.Mathlib.Omega.{arith}
 use lib.ListN.{getD}
@@ -21,6 +21,14 @@ octets-of w h =
   where
     sums : (a b c d x y z : ℕ) → x ≡ a → y ≡ x * 256 + b → z ≡ y * 256 + c → w ≡ z * 256 + d → (a * 0x1000000 + b * 0x10000 + c * 0x100 + d ≡ w) × ((e : ℕ) → a * 0x1000000 + b * 0x10000 + c * 0x100 + e ≡ z * 256 + e) × ((e f : ℕ) → a * 0x1000000 + b * 0x10000 + e * 0x100 + f ≡ y * 65536 + (e * 256 + f))
     sums a b c d x y z p q r s = (omega arith, (λ e. omega arith), λ e f. omega arith)
+
+pub zero-octet : (j : ℕ) → j < 4 → octetOf 0 j ≡ 0
+unfolding octetOf
+zero-octet zero h = refl
+zero-octet (suc zero) h = refl
+zero-octet (suc (suc zero)) h = refl
+zero-octet (suc (suc (suc zero))) h = refl
+zero-octet (suc (suc (suc (suc j)))) h = absurd (omega arith)
 
 head-octet : (head j : ℕ) → j < 4 → headOctet head j ≡ octetOf head j
 unfolding headOctet

@@ -1,5 +1,6 @@
 pub mod Needed
 pub mod Written
+pub mod Bytes
 pub mod Back
 pub mod Place
 pub mod Rewritten

@@ -13,7 +13,7 @@ use lib.Dec.{eqb}
 use borrow.Author.Tests.{le-leb, lt-leb, eq-eqb, ne-eqb, eqb-true, eqb-false}
 use Rattle.laws.specs.Lists.{nonzero}
 use Rattle.laws.proofs.Pick.{never, here, past, below, split}
-use Rattle.laws.proofs.Lists.{length-tabulate, getD-tabulate, nonzero-zero, nonzero-kept, nonzero-length}
+use Rattle.laws.proofs.Lists.{length-tabulate, getD-tabulate, nonzero-zero, nonzero-kept, nonzero-length, nonzero-none}
 use Rattle.counts.specs.Counts.{packet, byte}
 use Rattle.text.specs.Bytes.{textByte, allBytes, textOf}
 use Rattle.text.specs.Place.{placeOf, byteFrom, byteAt, stepped, seek, stepAt}
@@ -94,10 +94,6 @@ seek-byte cap x xs m n = rw (ne-eqb x 0 n)
 pub seek-end : (cap m : ℕ) → seek cap [] m ≡ stepped End (placeOf cap m)
 unfolding seek
 seek-end cap m = refl
-
-nonzero-none : nonzero [] ≡ []
-unfolding nonzero
-nonzero-none = refl
 
 module _ (ws : List ℕ) (cap : ℕ) where
   -- A PLACE AT OR PAST THE COUNT, OR AT OR PAST THE CAPACITY, is the end and does not move

@@ -10,6 +10,7 @@ use native.Mathlib.Nat.{zero-add, le-of-lt}
 use lib.ListN.{length, take, drop, length-append, length-drop, take-append-drop}
 use lib.Seq.{take-at, drop-at, length-take-le}
 use Rattle.laws.specs.Pick.{pick}
+use Rattle.laws.proofs.Lists.{cons-nil}
 use Rattle.laws.proofs.Pick.{never}
 use Rattle.counts.specs.Counts.{byte}
 use Rattle.counts.specs.declared.TextByteNumber.{TextByteNumber}
@@ -101,9 +102,6 @@ Later ds xs at m = (c : List ℕ) × (p : List ℕ) × (q : List ℕ) × (xs ≡
 
 abbrev Bad : List ℕ → Type 0
 Bad xs = (ds : List Range) (n at m : ℕ) → walk (going ds n) at xs ≡ BadAt (byte m) → ((m ≡ n) × Misfit ds xs) ⊎ Later ds xs at m
-
-cons-nil : (x : ℕ) (xs : List ℕ) → x ∷ xs ≡ [] → ⊥
-cons-nil x xs e = never (cc)
 
 none-char : {c : List ℕ} (x : ℕ) (xs t : List ℕ) → after x ≡ none → Char c → x ∷ xs ≡ c ++ t → ⊥
 none-char x xs t q (char {x = y} r f) e = let w : x ≡ y = cc in let z : _≡_ {A = ℕ} 0 1 = cc in omega arith

@@ -1,6 +1,6 @@
 -- `get` gives the field: `1 << span` is 2 ^ span.
 use lib.Pow.{pow-pos}
-use Rattle.bit_ops.proofs.Shifts.{one-shl}
+use Rattle.laws.proofs.Bits.{one-shl}
 use borrow.Author.Needs.{needs}
 use Rattle.bit_ops.proofs.get.Statement.{statement}
 use Rattle.bit_ops.proofs.get.Tie as tie
@@ -18,10 +18,10 @@ shl-result : tie.Need-shl-result
 shl-result c = search needs
 
 rem-result : tie.Need-rem-result
-rem-result c = rw (one-shl (c .pre .1)) (pow-pos _)
+rem-result c = rw (one-shl 32 (c .pre .1)) (pow-pos _)
 
 returns : tie.Need-returns
-returns c = rw (one-shl (c .pre .1))
+returns c = rw (one-shl 32 (c .pre .1))
 
 pub get-spec : {M : Type 1} → statement M
 get-spec = tie.close (tie.spec cast-result shr-result cast-result-2 shl-result rem-result returns)

@@ -1,7 +1,7 @@
 -- `set_part` gives the word with the part put, and the word as it was where nothing can be put.
 use mathlib.Core.Path.{sym}
 use native.Mathlib.Omega.{arith}
-use Rattle.bit_ops.proofs.Shifts.{one-shl}
+use Rattle.laws.proofs.Bits.{one-shl}
 use Rattle.bit_ops.proofs.Parts.{put-out, put-large, put-at}
 use borrow.Author.Needs.{needs}
 use Rattle.bit_ops.proofs.set_part.Statement.{statement}
@@ -20,7 +20,7 @@ shl-if2 : tie.Need-shl-if2
 shl-if2 c = search needs
 
 returns-2 : tie.Need-returns-2
-returns-2 c = sym (put-large _ _ _ _ _ (c .before .if1 .left) (omega (arith, one-shl {k = c .before .before .args .span} (omega arith))))
+returns-2 c = sym (put-large _ _ _ _ _ (c .before .if1 .left) (omega (arith, one-shl {k = c .before .before .args .span} 32 (omega arith))))
 
 place-requires : tie.Need-place-requires
 place-requires c κs = search needs

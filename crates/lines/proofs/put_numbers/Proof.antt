@@ -2,8 +2,9 @@
 use Prim.Native.Nat.{_≤_, _-_}
 use mathlib.Core.Path.{_≡_, refl, _∙_}
 use lib.ListN.{length, drop}
+use Rattle.laws.proofs.Lists.{each-more, each-none}
 use Rattle.lines.specs.Numbers.{number, numbers}
-use Rattle.lines.proofs.Page.{Left, left-all, left-turn, left-none, each-more, each-none}
+use Rattle.lines.proofs.Page.{Left, left-all, left-turn, left-none}
 use borrow.Author.Needs.{needs}
 use Rattle.lines.proofs.put_numbers.Statement.{statement}
 use Rattle.lines.proofs.put_numbers.Tie as tie

@@ -2,7 +2,8 @@
 use Prim.Native.Nat.{_≤_, _-_}
 use mathlib.Core.Path.{_≡_, refl, _∙_}
 use lib.ListN.{length, drop, drop-of-length-le}
-use Rattle.lines.proofs.Page.{Left, left-all, left-turn, left-none, drop-more}
+use Rattle.laws.proofs.Lists.{drop-more}
+use Rattle.lines.proofs.Page.{Left, left-all, left-turn, left-none}
 use borrow.Author.Needs.{needs}
 use Rattle.lines.proofs.put_text.Statement.{statement}
 use Rattle.lines.proofs.put_text.Tie as tie

@@ -1,5 +1,4 @@
-use Rattle.crossing.specs.Given.{givenKind}
-use Rattle.crossing.specs.Given.{spread}
+use Rattle.crossing.specs.Given.{givenKind, spread}
 use Rattle.records.specs.Records.{lookup, recordOf}
 use Rattle.kinds.specs.Layout.{layout}
 use Rattle.kinds.specs.Fields.{same, decided, start}

@@ -1,6 +1,5 @@
 -- `bytes::all_given` meets its contract. The invariant: the check stands at byte i, and will say what the definition says.
 use Prim.Native.Nat.{_+_, _-_, _≤_}
-use mathlib.Core.Path.{refl}
 use native.Mathlib.Omega.{arith}
 use borrow.Author.Needs.{needs}
 use lib.ListN.{length}

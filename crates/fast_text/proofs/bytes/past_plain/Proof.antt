@@ -1,6 +1,5 @@
 -- `bytes::past_plain` meets its contract. The invariant: whole characters stand from the start to byte i.
 use Prim.Native.Nat.{_-_}
-use native.Mathlib.Omega.{arith}
 use lib.ListN.{length}
 use Rattle.fast_text.specs.Fast.{Past}
 use Rattle.fast_text.proofs.Given.{past-none, past-more, past-one}

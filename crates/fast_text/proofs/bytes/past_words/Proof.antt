@@ -1,6 +1,5 @@
 -- `bytes::past_words` meets its contract. The invariant: whole characters stand from the start to byte i.
 use Prim.Native.Nat.{_-_}
-use mathlib.Core.Path.{sym, _∙_}
 use native.Mathlib.Omega.{arith}
 use lib.ListN.{length}
 use Rattle.fast_text.specs.Fast.{Past}

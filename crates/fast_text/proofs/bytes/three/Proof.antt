@@ -3,8 +3,9 @@ use native.Mathlib.Omega.{arith}
 use lib.Dec.{leb}
 use mathlib.Core.Path.{_∙_}
 use borrow.Author.Tests.{leb-true, leb-false}
+use Rattle.laws.proofs.Bits.{first-octet}
 use Rattle.laws.proofs.Pick.{split}
-use Rattle.fast_text.proofs.Codes.{first-octet, no-gap, second-high, third-high, is-three, no-three}
+use Rattle.fast_text.proofs.Codes.{no-gap, second-high, third-high, is-three, no-three}
 use borrow.Author.Needs.{needs}
 use Rattle.fast_text.proofs.bytes.three.Statement.{statement}
 use Rattle.fast_text.proofs.bytes.three.Tie as tie

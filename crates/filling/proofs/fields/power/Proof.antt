@@ -1,4 +1,5 @@
 use Rattle.laws.proofs.Bits.{one-shl}
+use native.Mathlib.Omega.{arith}
 use borrow.Author.Needs.{needs}
 use Rattle.filling.proofs.fields.power.Statement.{statement}
 use Rattle.filling.proofs.fields.power.Tie as tie
@@ -7,7 +8,7 @@ shl-result : tie.Need-shl-result
 shl-result c = search needs
 
 returns : tie.Need-returns
-returns c = one-shl (c .pre)
+returns c = let h = c .pre in one-shl 64 (omega arith)
 
 pub power-spec : {M : Type 1} → statement M
 power-spec = tie.close (tie.spec shl-result returns)

@@ -1,10 +1,9 @@
-use mathlib.Core.Path.{refl}
+use mathlib.Core.Path.{refl, sym, ap, _∙_}
 use Rattle.laws.specs.Lists.{map}
 use Rattle.slots.specs.Slots.{get, those}
 use Rattle.bit_ops.specs.Parts.{partIn}
 use Rattle.kinds.specs.Fields.{same, decided, joined}
 use Rattle.kinds.specs.Layout.{layout, held, valuesIn}
-use mathlib.Core.Path.{sym, ap, _∙_}
 use borrow.Author.Tests.{eq-eqb, ne-eqb}
 use Rattle.laws.proofs.Pick.{here, past}
 use Rattle.records.specs.declared.answers.Read.the-variants as R

@@ -2,7 +2,6 @@
 use native.Mathlib.Omega.{arith}
 use lib.Dec.{lit≤}
 use Rattle.reading.specs.OnePass.{textBits}
-use borrow.Author.Needs.{needs}
 use Rattle.reading.proofs.one_pass.text_bits.Statement.{statement}
 use Rattle.reading.proofs.one_pass.text_bits.Tie as tie
 

@@ -1,9 +1,8 @@
 use Rattle.kinds.specs.Fields.{same, decided, partOf}
 use Rattle.kinds.specs.Layout.{layout}
 use Rattle.records.specs.Records.{fieldsIn, lookup}
-use Rattle.filling.proofs.Puts.{putIns}
 use Rattle.writing.specs.Put.{putRecord}
-use Rattle.filling.specs.Filling.{putSeptets, fillSeptets}
+use Rattle.filling.specs.Filling.{putSeptets, fillSeptets, putIns}
 use borrow.Author.Needs.{needs}
 use Rattle.writing.proofs.device_identity.put.Statement.{statement}
 use Rattle.writing.proofs.device_identity.put.Tie as tie
