@@ -1,3 +1,4 @@
+-- `digit` meets its contract, as what it calls does.
 use borrow.Author.Tests.{lt-ltb, le-ltb}
 use borrow.Author.Needs.{needs}
 use Rattle.lines.proofs.digit.Statement.{statement}

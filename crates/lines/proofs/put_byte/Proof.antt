@@ -1,3 +1,4 @@
+-- `put_byte` meets its contract, by the laws of `Page`.
 use Rattle.lines.proofs.Page.{put-here, put-full}
 use borrow.Author.Needs.{needs}
 use Rattle.lines.proofs.put_byte.Statement.{statement}

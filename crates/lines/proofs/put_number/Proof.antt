@@ -1,3 +1,4 @@
+-- `put_number` meets its contract, by the laws of `Page`.
 use Rattle.lines.proofs.Page.{_⨾_}
 use borrow.Author.Needs.{needs}
 use Rattle.lines.proofs.put_number.Statement.{statement}

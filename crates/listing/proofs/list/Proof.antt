@@ -1,3 +1,4 @@
+-- `list` meets its contract, by the laws of `Room` and `Page` of lines.
 use mathlib.Core.Path.{sym, refl}
 use native.Mathlib.Omega.{arith}
 use lib.Seq.{length-take-le}

@@ -1,3 +1,4 @@
+-- `answers::of_answer` meets its contract, as what it calls does.
 use borrow.Author.Needs.{needs}
 use Rattle.crossing.proofs.answers.of_answer.Statement.{statement}
 use Rattle.crossing.proofs.answers.of_answer.Tie as tie

@@ -1,3 +1,4 @@
+-- `answers::of_read` meets its contract, as what it calls does.
 use borrow.Author.Needs.{needs}
 use Rattle.crossing.proofs.answers.of_read.Statement.{statement}
 use Rattle.crossing.proofs.answers.of_read.Tie as tie

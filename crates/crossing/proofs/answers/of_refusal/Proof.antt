@@ -1,3 +1,4 @@
+-- `answers::of_refusal` meets its contract, as what it calls does.
 use borrow.Author.Needs.{needs}
 use Rattle.crossing.proofs.answers.of_refusal.Statement.{statement}
 use Rattle.crossing.proofs.answers.of_refusal.Tie as tie

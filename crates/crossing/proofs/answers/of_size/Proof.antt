@@ -1,3 +1,4 @@
+-- `answers::of_size` meets its contract, as what it calls does.
 use borrow.Author.Needs.{needs}
 use Rattle.crossing.proofs.answers.of_size.Statement.{statement}
 use Rattle.crossing.proofs.answers.of_size.Tie as tie

@@ -1,3 +1,4 @@
+-- `answers::of_step` meets its contract, as what it calls does.
 use borrow.Author.Needs.{needs}
 use Rattle.crossing.proofs.answers.of_step.Statement.{statement}
 use Rattle.crossing.proofs.answers.of_step.Tie as tie

@@ -1,3 +1,4 @@
+-- `answers::refused_record` meets its contract, as what it calls does.
 use borrow.Author.Needs.{needs}
 use Rattle.crossing.proofs.answers.refused_record.Statement.{statement}
 use Rattle.crossing.proofs.answers.refused_record.Tie as tie

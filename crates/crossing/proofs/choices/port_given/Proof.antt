@@ -1,3 +1,4 @@
+-- `choices::port_given` meets its contract, by the laws of `Bytes` of laws.
 use borrow.Author.Tests.{lt-ltb}
 use Rattle.laws.proofs.Bytes.{missed}
 use Rattle.crossing.proofs.choices.port_given.Statement.{statement}

@@ -1,3 +1,4 @@
+-- `given::are_within` meets its contract, by the laws of `Within`, turn by turn.
 use borrow.Author.Needs.{needs}
 use Rattle.crossing.proofs.Within.{within-short, within-bad, within-good, within-done}
 use Rattle.crossing.specs.Given.{within}

@@ -1,3 +1,4 @@
+-- `given::function_block_info` meets its contract, by the laws of `Accepted` and `Pick` of laws.
 use Rattle.crossing.proofs.Accepted.{given-large, given-port, given-direction, given-whole, all-below, first-below, rest-below}
 use Rattle.crossing.specs.Given.{within, spread}
 use Rattle.records.specs.Records.{lookup, firstPart, recordOf}

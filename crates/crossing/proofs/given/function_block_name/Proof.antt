@@ -1,3 +1,4 @@
+-- `given::function_block_name` meets its contract, by its definition.
 use Rattle.crossing.specs.Given.{spread, givenKind}
 use Rattle.records.specs.Records.{lookup, firstPart, recordOf}
 use Rattle.kinds.specs.Layout.{layout}

@@ -1,3 +1,4 @@
+-- `given::of_kind` meets its contract, by its definition.
 use Rattle.crossing.specs.Given.{givenKind, spread}
 use Rattle.records.specs.Records.{lookup, recordOf}
 use Rattle.kinds.specs.Layout.{layout}

@@ -1,3 +1,4 @@
+-- `given::of_numbers` meets its contract, as what it calls does.
 use borrow.Author.Needs.{needs}
 use Rattle.crossing.proofs.given.of_numbers.Statement.{statement}
 use Rattle.crossing.proofs.given.of_numbers.Tie as tie

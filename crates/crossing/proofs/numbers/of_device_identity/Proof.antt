@@ -1,3 +1,4 @@
+-- `numbers::of_device_identity` meets its contract, by the laws of `Numbers` of records.
 use Rattle.records.proofs.Numbers.{identity-numbers}
 use Rattle.kinds.specs.Layout.{layout}
 use borrow.Author.Needs.{needs}

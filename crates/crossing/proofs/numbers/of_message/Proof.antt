@@ -1,3 +1,4 @@
+-- `numbers::of_message` meets its contract, by its definition.
 use Rattle.records.specs.Records.{fieldsIn, lookup, firstPart}
 use Rattle.kinds.specs.Layout.{layout}
 use Rattle.kinds.specs.Fields.{same, decided}

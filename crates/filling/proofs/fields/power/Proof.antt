@@ -1,3 +1,4 @@
+-- `fields::power` meets its contract, by the laws of `Bits` of laws.
 use Rattle.laws.proofs.Bits.{one-shl}
 use native.Mathlib.Omega.{arith}
 use borrow.Author.Needs.{needs}

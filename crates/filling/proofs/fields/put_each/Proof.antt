@@ -1,3 +1,4 @@
+-- `fields::put_each` meets its contract, by the laws of `Turns` and `Pick` of laws, turn by turn.
 use Prim.Native.Nat.{_≤_, _-_, _*_, _/_}
 use mathlib.Core.Path.{refl}
 use native.Mathlib.Omega.{arith}

@@ -1,3 +1,4 @@
+-- `fields::put_field` meets its contract, by its definition.
 use mathlib.Core.Path.{sym}
 use lib.Seq.{set-out}
 use Rattle.filling.specs.Filling.{putIn}

@@ -1,3 +1,4 @@
+-- `fields::too_large` meets its contract, as what it calls does.
 use Prim.Native.Nat.{_^_, _≤_}
 use mathlib.Core.Path.{sym}
 use native.Mathlib.Omega.{arith}

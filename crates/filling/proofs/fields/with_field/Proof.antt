@@ -1,3 +1,4 @@
+-- `fields::with_field` meets its contract, by the laws of `Puts`.
 use mathlib.Core.Path.{sym, _∙_}
 use native.Mathlib.Omega.{arith}
 use borrow.Author.Tests.{leb-true, leb-false}

@@ -1,3 +1,4 @@
+-- `packets::clear` meets its contract, by the laws of `Turns`.
 use mathlib.Core.Path.{_∙_}
 use native.Mathlib.Omega.{arith}
 use lib.ListN.{length-set}

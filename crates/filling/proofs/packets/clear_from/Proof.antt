@@ -1,3 +1,4 @@
+-- `packets::clear_from` meets its contract, by the laws of `Turns`, turn by turn.
 use Prim.Native.Nat.{_≤_, _-_, _*_, _/_}
 use mathlib.Core.Path.{_≡_, refl}
 use native.Mathlib.Omega.{arith}

@@ -1,3 +1,4 @@
+-- `septets::are_septets` meets its contract, by the laws of `Numbers`, turn by turn.
 use Prim.Native.Nat.{_≤_, _-_}
 use mathlib.Core.Path.{_≡_, refl, _∙_}
 use native.Mathlib.Omega.{arith}

@@ -1,3 +1,4 @@
+-- `septets::put_each_septet` meets its contract, by the laws of `Numbers`, turn by turn.
 use Rattle.filling.specs.Filling.{putIn, putSeptets}
 use Prim.Native.Nat.{_≤_, _+_}
 use mathlib.Core.Path.{_≡_, refl, sym, ap, _∙_}

@@ -1,3 +1,4 @@
+-- `septets::put_septets` meets its contract, by the laws of `Numbers`.
 use mathlib.Core.Path.{sym, _∙_}
 use native.Mathlib.Omega.{arith}
 use Rattle.filling.proofs.Numbers.{septets-out, septets-in}

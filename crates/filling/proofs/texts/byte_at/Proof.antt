@@ -1,3 +1,4 @@
+-- `texts::byte_at` meets its contract, as what it calls does.
 use mathlib.Core.Path.{refl, sym}
 use native.Mathlib.Omega.{arith}
 use lib.ListN.{List·getD-eq-default}

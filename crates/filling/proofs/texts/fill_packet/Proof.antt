@@ -1,3 +1,4 @@
+-- `texts::fill_packet` meets its contract, by the laws of `Rewritten` of text.
 use Prim.Native.Nat.{_-_}
 use Rattle.filling.specs.Filling.{formatted}
 use native.Mathlib.Omega.{arith}

@@ -1,3 +1,4 @@
+-- `texts::fill_packets` meets its contract, by the laws of `Turns`, turn by turn.
 use Prim.Native.Nat.{_≤_, _-_, _*_}
 use native.Mathlib.Omega.{arith}
 use Rattle.text.specs.Written.{wordNew}

@@ -1,3 +1,4 @@
+-- `texts::first_word` meets its contract, by the laws of `Octets`.
 use Prim.Native.Nat.{_-_}
 use native.Mathlib.Omega.{arith}
 use Rattle.filling.proofs.Octets.{product, two-bytes, one-byte, no-byte}

@@ -1,3 +1,4 @@
+-- `texts::four_bytes` meets its contract, by the laws of `Fours` of text.
 use mathlib.Core.Path.{_∙_}
 use Rattle.text.proofs.Fours.{joined-in}
 use borrow.Author.Needs.{needs}

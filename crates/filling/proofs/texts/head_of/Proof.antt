@@ -1,3 +1,4 @@
+-- `texts::head_of` meets its contract, by the laws of `Puts` and `Needed` of text.
 use mathlib.Core.Path.{_∙_, ap}
 use lib.Dec.{lit≤}
 use Rattle.text.proofs.Needed.{due-small}

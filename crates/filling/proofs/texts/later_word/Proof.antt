@@ -1,3 +1,4 @@
+-- `texts::later_word` meets its contract, by the laws of `Octets`.
 use Prim.Native.Nat.{_-_}
 use mathlib.Core.Path.{refl, _∙_}
 use native.Mathlib.Omega.{arith}

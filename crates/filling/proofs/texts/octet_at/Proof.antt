@@ -1,3 +1,4 @@
+-- `texts::octet_at` meets its contract, by the laws of `Octets`.
 use Prim.Native.Nat.{_-_}
 use mathlib.Core.Path.{_∙_}
 use native.Mathlib.Omega.{arith}

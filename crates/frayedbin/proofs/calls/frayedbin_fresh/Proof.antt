@@ -1,3 +1,4 @@
+-- `calls::frayedbin_fresh` meets its contract, as what it calls does.
 use borrow.Author.Needs.{needs}
 use Rattle.frayedbin.proofs.calls.frayedbin_fresh.Statement.{statement}
 use Rattle.frayedbin.proofs.calls.frayedbin_fresh.Tie as tie

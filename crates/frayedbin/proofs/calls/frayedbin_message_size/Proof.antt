@@ -1,3 +1,4 @@
+-- `calls::frayedbin_message_size` meets its contract, as what it calls does.
 use borrow.Author.Needs.{needs}
 use Rattle.frayedbin.proofs.calls.frayedbin_message_size.Statement.{statement}
 use Rattle.frayedbin.proofs.calls.frayedbin_message_size.Tie as tie

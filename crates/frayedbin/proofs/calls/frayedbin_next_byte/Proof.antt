@@ -1,3 +1,4 @@
+-- `calls::frayedbin_next_byte` meets its contract, as what it calls does.
 use borrow.Author.Needs.{needs}
 use Rattle.frayedbin.proofs.calls.frayedbin_next_byte.Statement.{statement}
 use Rattle.frayedbin.proofs.calls.frayedbin_next_byte.Tie as tie

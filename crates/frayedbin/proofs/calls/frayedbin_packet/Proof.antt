@@ -1,3 +1,4 @@
+-- `calls::frayedbin_packet` meets its contract, as what it calls does.
 use borrow.Author.Needs.{needs}
 use Rattle.frayedbin.proofs.calls.frayedbin_packet.Statement.{statement}
 use Rattle.frayedbin.proofs.calls.frayedbin_packet.Tie as tie

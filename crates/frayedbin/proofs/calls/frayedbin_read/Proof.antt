@@ -1,3 +1,4 @@
+-- `calls::frayedbin_read` meets its contract, as what it calls does.
 use borrow.Author.Needs.{needs}
 use Rattle.frayedbin.proofs.calls.frayedbin_read.Statement.{statement}
 use Rattle.frayedbin.proofs.calls.frayedbin_read.Tie as tie

@@ -1,3 +1,4 @@
+-- `calls::frayedbin_walk` meets its contract, as what it calls does.
 use borrow.Author.Needs.{needs}
 use Rattle.frayedbin.proofs.calls.frayedbin_walk.Statement.{statement}
 use Rattle.frayedbin.proofs.calls.frayedbin_walk.Tie as tie

@@ -1,3 +1,4 @@
+-- `calls::frayedbin_write` meets its contract, as what it calls does.
 use mathlib.Core.Path.{refl}
 use borrow.Author.Needs.{needs}
 use Rattle.frayedbin.proofs.calls.frayedbin_write.Statement.{statement}

@@ -1,3 +1,4 @@
+-- `device_identity::frayedbin_device_identity_set_device_family_model_number` meets its contract, as what it calls does.
 use borrow.Author.Needs.{needs}
 use Rattle.frayedbin.proofs.device_identity.frayedbin_device_identity_set_device_family_model_number.Statement.{
   statement,

@@ -1,3 +1,4 @@
+-- `endpoint_discovery::frayedbin_record_set_request_device_identity` meets its contract, as what it calls does.
 use borrow.Author.Needs.{needs}
 use Rattle.frayedbin.proofs.endpoint_discovery.frayedbin_record_set_request_device_identity.Statement.{
   statement,

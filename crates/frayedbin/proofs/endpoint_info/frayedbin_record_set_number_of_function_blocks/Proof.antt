@@ -1,3 +1,4 @@
+-- `endpoint_info::frayedbin_record_set_number_of_function_blocks` meets its contract, as what it calls does.
 use borrow.Author.Needs.{needs}
 use Rattle.frayedbin.proofs.endpoint_info.frayedbin_record_set_number_of_function_blocks.Statement.{
   statement,

@@ -1,3 +1,4 @@
+-- `endpoint_info::frayedbin_record_set_supports_midi2_protocol` meets its contract, as what it calls does.
 use borrow.Author.Needs.{needs}
 use Rattle.frayedbin.proofs.endpoint_info.frayedbin_record_set_supports_midi2_protocol.Statement.{
   statement,

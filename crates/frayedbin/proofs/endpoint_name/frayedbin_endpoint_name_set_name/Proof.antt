@@ -1,3 +1,4 @@
+-- `endpoint_name::frayedbin_endpoint_name_set_name` meets its contract, as what it calls does.
 use borrow.Author.Needs.{needs}
 use Rattle.frayedbin.proofs.endpoint_name.frayedbin_endpoint_name_set_name.Statement.{
   statement,

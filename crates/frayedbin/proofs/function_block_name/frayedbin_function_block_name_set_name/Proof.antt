@@ -1,3 +1,4 @@
+-- `function_block_name::frayedbin_function_block_name_set_name` meets its contract, as what it calls does.
 use borrow.Author.Needs.{needs}
 use Rattle.frayedbin.proofs.function_block_name.frayedbin_function_block_name_set_name.Statement.{
   statement,

@@ -1,3 +1,4 @@
+-- `function_block_name::frayedbin_record_set_function_block` meets its contract, as what it calls does.
 use borrow.Author.Needs.{needs}
 use Rattle.frayedbin.proofs.function_block_name.frayedbin_record_set_function_block.Statement.{
   statement,

@@ -1,3 +1,4 @@
+-- `product_instance_id::frayedbin_product_instance_id_set_id` meets its contract, as what it calls does.
 use borrow.Author.Needs.{needs}
 use Rattle.frayedbin.proofs.product_instance_id.frayedbin_product_instance_id_set_id.Statement.{
   statement,

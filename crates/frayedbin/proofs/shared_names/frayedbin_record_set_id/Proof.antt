@@ -1,3 +1,4 @@
+-- `shared_names::frayedbin_record_set_id` meets its contract, as what it calls does.
 use borrow.Author.Needs.{needs}
 use Rattle.frayedbin.proofs.shared_names.frayedbin_record_set_id.Statement.{statement}
 use Rattle.frayedbin.proofs.shared_names.frayedbin_record_set_id.Tie as tie

@@ -1,3 +1,4 @@
+-- `answers::put_answer` meets its contract, by the laws of `Page` of lines and `Stands` of walking.
 use native.Mathlib.Omega.{arith}
 use Rattle.lines.proofs.Page.{nothing}
 use borrow.Author.Needs.{needs}

@@ -1,3 +1,4 @@
+-- `answers::put_line` meets its contract, by the laws of `Page` of lines.
 use Rattle.lines.proofs.Page.{_⨾_}
 use borrow.Author.Needs.{needs}
 use Rattle.listing.proofs.answers.put_line.Statement.{statement}

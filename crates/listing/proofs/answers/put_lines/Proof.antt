@@ -1,3 +1,4 @@
+-- `answers::put_lines` meets its contract, by the laws of `Lines` and `Visits` of walking, turn by turn.
 use Prim.Native.Nat.{_-_}
 use mathlib.Core.Path.{_≡_, refl, _∙_}
 use native.Mathlib.Omega.{arith}

@@ -1,3 +1,4 @@
+-- `answers::put_refusal` meets its contract, as what it calls does.
 use borrow.Author.Needs.{needs}
 use Rattle.listing.proofs.answers.put_refusal.Statement.{statement}
 use Rattle.listing.proofs.answers.put_refusal.Tie as tie

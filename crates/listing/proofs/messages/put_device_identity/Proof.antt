@@ -1,3 +1,4 @@
+-- `messages::put_device_identity` meets its contract, by the laws of `Numbers` and `Page` of lines.
 use Rattle.lines.proofs.Page.{says}
 use Rattle.listing.proofs.Numbers.{identity-shown}
 use borrow.Author.Needs.{needs}

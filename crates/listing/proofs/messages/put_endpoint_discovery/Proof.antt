@@ -1,3 +1,4 @@
+-- `messages::put_endpoint_discovery` meets its contract, by the laws of `Numbers` and `Page` of lines.
 use Rattle.lines.proofs.Page.{says}
 use Rattle.listing.proofs.Numbers.{discovery-shown}
 use borrow.Author.Needs.{needs}

@@ -1,3 +1,4 @@
+-- `messages::put_message` meets its contract, by the laws of `Numbers` and `Page` of lines.
 use mathlib.Core.Path.{_∙_, ap}
 use Rattle.kinds.specs.Layout.{layout}
 use Rattle.records.specs.Records.{packetsIn}

@@ -1,3 +1,4 @@
+-- `messages::put_texts` meets its contract, by the laws of `Page` of lines.
 use Rattle.lines.proofs.Page.{_⨾_}
 use borrow.Author.Needs.{needs}
 use Rattle.listing.proofs.messages.put_texts.Statement.{statement}

@@ -1,3 +1,4 @@
+-- `one::show` meets its contract, by the laws of `Formed` of standard.
 use mathlib.Core.Path.{sym, _∙_}
 use native.Mathlib.Omega.{arith}
 use Rattle.standard.proofs.Formed.{read-formed}

@@ -1,3 +1,4 @@
+-- `shown::put_bytes` meets its contract, by the laws of `Ahead` and `Page` of lines, turn by turn.
 use Prim.Native.Nat.{_-_, _/_}
 use mathlib.Core.Path.{_≡_, refl, _∙_}
 use native.Mathlib.Omega.{arith}

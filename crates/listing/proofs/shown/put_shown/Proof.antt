@@ -1,3 +1,4 @@
+-- `shown::put_shown` meets its contract, by the laws of `Ahead` and `Page` of lines.
 use Prim.Native.Nat.{_-_}
 use native.Mathlib.Omega.{arith}
 use Rattle.lines.proofs.Page.{_⨾_, says}

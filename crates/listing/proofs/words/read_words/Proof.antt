@@ -1,3 +1,4 @@
+-- `words::read_words` meets its contract, by the laws of `Lists` of laws, turn by turn.
 use Prim.Native.Nat.{_≤_, _-_, _/_, min}
 use mathlib.Core.Path.{_≡_, refl, _∙_}
 use native.Mathlib.Omega.{arith}

@@ -1,3 +1,4 @@
+-- `by_byte::next_byte` meets its contract, as what it calls does.
 use borrow.Author.Needs.{needs}
 use Rattle.reading.proofs.by_byte.next_byte.Statement.{statement}
 use Rattle.reading.proofs.by_byte.next_byte.Tie as tie

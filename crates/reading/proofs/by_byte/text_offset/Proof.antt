@@ -1,3 +1,4 @@
+-- `by_byte::text_offset` meets its contract, by the laws of `Pick` of laws.
 use mathlib.Core.Path.{refl, sym, _∙_}
 use borrow.Author.Tests.{eq-eqb, ne-eqb}
 use lib.ListN.{List·getD-eq-default}

@@ -1,3 +1,4 @@
+-- `function_block_info::read` meets its contract, by the laws of `Bodies` and `Pick` of laws.
 use mathlib.Core.Path.{refl, sym, ap, _∙_}
 use Rattle.laws.specs.Lists.{map}
 use Rattle.slots.specs.Slots.{get, those}

@@ -1,3 +1,4 @@
+-- `heads::kind_of` meets its contract, by the laws of `Pick` of laws.
 use mathlib.Core.Path.{refl}
 use borrow.Author.Tests.{ne-eqb}
 use Rattle.laws.proofs.Pick.{past}

@@ -1,3 +1,4 @@
+-- `heads::type_of` meets its contract, by its definition.
 use Rattle.bit_ops.specs.Parts.{partIn}
 use borrow.Author.Needs.{needs}
 use Rattle.reading.proofs.heads.type_of.Statement.{statement}

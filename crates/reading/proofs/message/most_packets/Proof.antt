@@ -1,3 +1,4 @@
+-- `message::most_packets` meets its contract, by its definition.
 use Rattle.kinds.specs.Layout.{layout}
 use borrow.Author.Needs.{needs}
 use Rattle.reading.proofs.message.most_packets.Statement.{statement}

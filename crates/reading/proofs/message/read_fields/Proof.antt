@@ -1,3 +1,4 @@
+-- `message::read_fields` meets its contract, by the laws of `Repeats` and `Rules` of standard.
 use mathlib.Core.Path.{sym, _∙_}
 use Rattle.standard.proofs.Rules.{ruled-here, ruled-past}
 use Rattle.reading.specs.Bodies.{fieldsRead}

@@ -1,3 +1,4 @@
+-- `message::read_kind` meets its contract, by the laws of `Pick` of laws and `Rules` of standard.
 use mathlib.Core.Path.{refl}
 use borrow.Author.Tests.{lt-ltb, le-ltb}
 use Rattle.laws.proofs.Pick.{here, past}

@@ -1,3 +1,4 @@
+-- `message::read_text` meets its contract, by its definition.
 use Rattle.reading.specs.Bodies.{textRead}
 use borrow.Author.Needs.{needs}
 use Rattle.reading.proofs.message.read_text.Statement.{statement}

@@ -1,3 +1,4 @@
+-- `packet::format` meets its contract, as what it calls does.
 use borrow.Author.Tests.{ne-eqb}
 use borrow.Author.Needs.{needs}
 use Rattle.reading.proofs.packet.format.Statement.{statement}

@@ -1,3 +1,4 @@
+-- `packet::message_size` meets its contract, by the laws of `Pick` of laws.
 use mathlib.Core.Path.{refl}
 use borrow.Author.Tests.{lt-ltb, le-ltb}
 use Rattle.laws.proofs.Pick.{here, past}

@@ -1,3 +1,4 @@
+-- `packet::packet` meets its contract, by the laws of `Pick` of laws.
 use mathlib.Core.Path.{refl, sym, _∙_}
 use borrow.Author.Tests.{eq-eqb, ne-eqb}
 use Rattle.laws.proofs.Pick.{here, past, eq-differ, ne-differ}

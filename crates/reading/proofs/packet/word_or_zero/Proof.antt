@@ -1,3 +1,4 @@
+-- `packet::word_or_zero` meets its contract, as what it calls does.
 use mathlib.Core.Path.{sym}
 use lib.ListN.{List·getD-eq-default}
 use borrow.Author.Needs.{needs}

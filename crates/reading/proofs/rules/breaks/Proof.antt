@@ -1,3 +1,4 @@
+-- `rules::breaks` meets its contract, by its definition.
 use Rattle.bit_ops.specs.Parts.{partIn}
 use Rattle.reading.specs.Rules.{breaksOf}
 use borrow.Author.Needs.{needs}

@@ -1,3 +1,4 @@
+-- `message::status_in` meets its contract, by its definition.
 use Rattle.kinds.specs.Layout.{layout}
 use borrow.Author.Needs.{needs}
 use Rattle.records.proofs.message.status_in.Statement.{statement}

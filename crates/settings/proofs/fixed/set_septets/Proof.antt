@@ -1,3 +1,4 @@
+-- `fixed::set_septets` meets its contract, by the laws of `Slots` and `Left` of standard.
 use Rattle.settings.proofs.Slots.{septets-refused, septets-large, septets-set}
 use mathlib.Core.Path.{sym, _∙_}
 use borrow.Author.Needs.{needs}

@@ -1,3 +1,4 @@
+-- `fixed::set_slot` meets its contract, by the laws of `Slots` and `Left` of standard.
 use Rattle.settings.proofs.Slots.{slot-refused, slot-large, slot-done}
 use mathlib.Core.Path.{sym, _∙_}
 use borrow.Author.Needs.{needs}

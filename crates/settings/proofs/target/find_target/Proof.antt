@@ -1,3 +1,4 @@
+-- `target::find_target` meets its contract, as what it calls does.
 use borrow.Author.Needs.{needs}
 use Rattle.settings.proofs.target.find_target.Statement.{statement}
 use Rattle.settings.proofs.target.find_target.Tie as tie

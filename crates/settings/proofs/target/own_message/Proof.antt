@@ -1,3 +1,4 @@
+-- `target::own_message` meets its contract, by the laws of `Pick` of laws.
 use mathlib.Core.Path.{refl, sym, _∙_}
 use Rattle.laws.proofs.Pick.{here, past, eq-differ, ne-differ}
 use Rattle.settings.specs.Target.{ownIn}

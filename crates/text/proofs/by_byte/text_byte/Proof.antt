@@ -1,3 +1,4 @@
+-- `by_byte::text_byte` meets its contract, by the laws of `Pick` of laws.
 use Prim.Native.Nat.{_+_, _-_}
 use mathlib.Core.Path.{_≡_, refl}
 use native.Mathlib.Omega.{arith}

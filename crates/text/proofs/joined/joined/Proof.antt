@@ -1,3 +1,4 @@
+-- `joined::joined` meets its contract, by the laws of `Fours`.
 use mathlib.Core.Path.{sym, _∙_}
 use native.Mathlib.Omega.{arith}
 use Rattle.text.proofs.Fours.{joined-in, joined-out}

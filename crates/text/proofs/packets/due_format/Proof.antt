@@ -1,3 +1,4 @@
+-- `packets::due_format` meets its contract, by the laws of `Pick` of laws.
 use mathlib.Core.Path.{refl}
 use borrow.Author.Tests.{le-leb, lt-leb, eq-eqb, ne-eqb, lt-ltb, le-ltb}
 use Rattle.laws.proofs.Pick.{here, past}

@@ -1,3 +1,4 @@
+-- `packets::packets_needed` meets its contract, by the laws of `Needed`.
 use native.Mathlib.Omega.{arith}
 use Rattle.text.proofs.Needed.{needed-none, needed-without, needed-last, packets-fit}
 use borrow.Author.Needs.{needs}

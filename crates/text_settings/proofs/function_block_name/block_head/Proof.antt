@@ -1,3 +1,4 @@
+-- `function_block_name::block_head` meets its contract, by the laws of `Heads`.
 use Rattle.text_settings.specs.Texts.{blockHead}
 use mathlib.Core.Path.{refl}
 use Rattle.text_settings.proofs.Heads.{no-number}

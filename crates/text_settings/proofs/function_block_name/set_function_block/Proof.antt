@@ -1,3 +1,4 @@
+-- `function_block_name::set_function_block` meets its contract, by the laws of `Plans`, `Rows` and `Slots` of settings.
 use mathlib.Core.Path.{refl, sym, _∙_}
 use Rattle.kinds.specs.declared.kind.Kind.the-variants as K
 use Rattle.kinds.specs.Fields.{Text}

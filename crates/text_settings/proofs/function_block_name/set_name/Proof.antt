@@ -1,3 +1,4 @@
+-- `function_block_name::set_name` meets its contract, by the laws of `Rows`, `Heads` and `Left` of standard.
 use mathlib.Core.Path.{refl}
 use lib.Dec.{lit≤}
 use Rattle.kinds.specs.declared.kind.Kind.the-variants as K

@@ -1,3 +1,4 @@
+-- `texts::find_room` meets its contract, by the laws of `Plans`.
 use Rattle.text_settings.proofs.Plans.{room-many, room-short, room-enough}
 use borrow.Author.Needs.{needs}
 use Rattle.text_settings.proofs.texts.find_room.Statement.{statement}

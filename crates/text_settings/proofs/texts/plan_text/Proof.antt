@@ -1,3 +1,4 @@
+-- `texts::plan_text` meets its contract, by the laws of `Plans`.
 use mathlib.Core.Path.{sym, _∙_}
 use Rattle.text_settings.proofs.Plans.{plan-bad, plan-good}
 use borrow.Author.Needs.{needs}

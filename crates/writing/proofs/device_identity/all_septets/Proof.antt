@@ -1,3 +1,4 @@
+-- `device_identity::all_septets` meets its contract, by its definition.
 use Rattle.slots.specs.Slots.{fits}
 use Rattle.kinds.specs.Fields.{same, decided, partOf}
 use Rattle.records.specs.Records.{fieldsIn, lookup}

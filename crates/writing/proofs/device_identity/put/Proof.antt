@@ -1,3 +1,4 @@
+-- `device_identity::put` meets its contract, by its definition.
 use Rattle.kinds.specs.Fields.{same, decided, partOf}
 use Rattle.kinds.specs.Layout.{layout}
 use Rattle.records.specs.Records.{fieldsIn, lookup}

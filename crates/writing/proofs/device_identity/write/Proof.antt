@@ -1,3 +1,4 @@
+-- `device_identity::write` meets its contract, by the laws of `Cases` and `Left` of standard.
 use mathlib.Core.Path.{sym, _∙_}
 use borrow.Author.Tests.{not-true, not-false}
 use Rattle.kinds.specs.Layout.{layout}

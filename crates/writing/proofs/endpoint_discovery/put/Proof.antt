@@ -1,3 +1,4 @@
+-- `endpoint_discovery::put` meets its contract, by the laws of `Parts` of bit_ops.
 use Rattle.kinds.specs.Fields.{same, decided, partOf}
 use Rattle.kinds.specs.Layout.{layout}
 use Rattle.records.specs.Records.{fieldsIn, lookup}

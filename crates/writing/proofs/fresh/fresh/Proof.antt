@@ -1,3 +1,4 @@
+-- `fresh::fresh` meets its contract, by the laws of `Blank` and `Left` of standard.
 use mathlib.Core.Path.{sym, _∙_}
 use Rattle.writing.proofs.Blank.{fresh-unknown, fresh-short, fresh-done}
 use borrow.Author.Needs.{needs}

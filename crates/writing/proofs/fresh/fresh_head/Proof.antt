@@ -1,3 +1,4 @@
+-- `fresh::fresh_head` meets its contract, by its definition.
 use Rattle.slots.specs.Slots.{put, putAll}
 use Rattle.kinds.specs.Fields.{start, partOf}
 use Rattle.kinds.specs.Layout.{layout}

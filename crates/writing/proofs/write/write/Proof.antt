@@ -1,3 +1,4 @@
+-- `write::write` meets its contract, by the laws of `Cases` and `Left` of standard.
 use mathlib.Core.Path.{refl}
 use Rattle.kinds.specs.Layout.{layout}
 use Rattle.writing.proofs.Cases.{write-text}
