@@ -1,5 +1,5 @@
 -- The three counts, and the formulas between them. A packet is four words.
-use Prim.Native.Nat.{ℕ, _*_}
+use Prim.Native.Nat.{ℕ, _*_, _/_}
 use Rattle.counts.specs.declared.PacketNumber.{PacketNumber}
 use Rattle.counts.specs.declared.WordNumber.{WordNumber}
 use Rattle.counts.specs.declared.TextByteNumber.{TextByteNumber}
@@ -16,3 +16,7 @@ byte n = record { 0 = n }
 -- the first word of a packet
 abbrev pub firstWord : PacketNumber → WordNumber
 firstWord p = word (p .0 * 4)
+
+-- the whole packets of so many words
+abbrev pub wholePackets : WordNumber → PacketNumber
+wholePackets w = packet (w .0 / 4)

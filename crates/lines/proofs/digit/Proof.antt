@@ -1,4 +1,4 @@
--- `digit` meets its contract, as what it calls does.
+-- `digit` meets its contract, below ten and from ten on.
 use borrow.Author.Tests.{lt-ltb, le-ltb}
 use borrow.Author.Needs.{needs}
 use Rattle.lines.proofs.digit.Statement.{statement}

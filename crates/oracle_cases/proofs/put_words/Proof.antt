@@ -1,4 +1,4 @@
--- `put_words` meets its contract, as what it calls does, turn by turn.
+-- `put_words` ends and is safe; what it prints is held to the stored output.
 use Prim.Native.Nat.{_-_}
 use mathlib.Core.Path.{_≡_}
 use lib.ListN.{length}

@@ -1,4 +1,4 @@
--- `answers::of_edited` meets its contract, as what it calls does.
+-- `answers::of_edited` meets its contract, case by case.
 use borrow.Author.Needs.{needs}
 use Rattle.crossing.proofs.answers.of_edited.Statement.{statement}
 use Rattle.crossing.proofs.answers.of_edited.Tie as tie

@@ -1,4 +1,4 @@
--- `answers::of_packet` meets its contract, as what it calls does.
+-- `answers::of_packet` meets its contract, case by case.
 use borrow.Author.Needs.{needs}
 use Rattle.crossing.proofs.answers.of_packet.Statement.{statement}
 use Rattle.crossing.proofs.answers.of_packet.Tie as tie

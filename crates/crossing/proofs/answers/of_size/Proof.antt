@@ -1,4 +1,4 @@
--- `answers::of_size` meets its contract, as what it calls does.
+-- `answers::of_size` meets its contract, case by case.
 use borrow.Author.Needs.{needs}
 use Rattle.crossing.proofs.answers.of_size.Statement.{statement}
 use Rattle.crossing.proofs.answers.of_size.Tie as tie

@@ -1,4 +1,4 @@
--- `answers::of_walked` meets its contract, as what it calls does.
+-- `answers::of_walked` meets its contract, case by case.
 use borrow.Author.Needs.{needs}
 use Rattle.crossing.proofs.answers.of_walked.Statement.{statement}
 use Rattle.crossing.proofs.answers.of_walked.Tie as tie

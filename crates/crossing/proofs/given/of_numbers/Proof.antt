@@ -1,4 +1,4 @@
--- `given::of_numbers` meets its contract, as what it calls does.
+-- `given::of_numbers` meets its contract, known status or not.
 use borrow.Author.Needs.{needs}
 use Rattle.crossing.proofs.given.of_numbers.Statement.{statement}
 use Rattle.crossing.proofs.given.of_numbers.Tie as tie

@@ -1,4 +1,4 @@
--- `fields::too_large` meets its contract, as what it calls does.
+-- `fields::too_large` meets its contract, by the bound of so many bits.
 use Prim.Native.Nat.{_^_, _≤_}
 use mathlib.Core.Path.{sym}
 use native.Mathlib.Omega.{arith}

@@ -1,4 +1,4 @@
--- `run::run` meets its contract, as what it calls does, turn by turn.
+-- `run::run` ends and is safe; what it answers is held to the stored output.
 use Prim.Native.Nat.{_-_}
 use mathlib.Core.Path.{_≡_}
 use lib.ListN.{length}

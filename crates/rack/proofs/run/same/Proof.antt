@@ -1,4 +1,4 @@
--- `run::same` meets its contract, as what it calls does, turn by turn.
+-- `run::same` ends and is safe; what it answers is not stated.
 use Prim.Native.Nat.{_-_}
 use mathlib.Core.Path.{_≡_}
 use lib.ListN.{length}

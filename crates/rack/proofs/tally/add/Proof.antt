@@ -1,4 +1,4 @@
--- `tally::add` meets its contract, as what it calls does, turn by turn.
+-- `tally::add` ends and is safe; what it answers is not stated.
 use Prim.Native.Nat.{_-_}
 use mathlib.Core.Path.{_≡_}
 use lib.ListN.{length}

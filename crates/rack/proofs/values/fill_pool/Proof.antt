@@ -1,4 +1,4 @@
--- `values::fill_pool` meets its contract, as what it calls does, turn by turn.
+-- `values::fill_pool` ends and is safe; what it leaves is not stated.
 use Prim.Native.Nat.{_-_}
 use mathlib.Core.Path.{_≡_}
 use lib.ListN.{length}

@@ -1,4 +1,4 @@
--- `function_block_info::ui_hint` meets its contract, as what it calls does.
+-- `function_block_info::ui_hint` meets its contract, a code at a time.
 use borrow.Author.Tests.{ne-eqb}
 use Rattle.reading.proofs.function_block_info.ui_hint.Statement.{statement}
 use Rattle.reading.proofs.function_block_info.ui_hint.Tie as tie

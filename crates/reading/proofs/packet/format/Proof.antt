@@ -1,4 +1,4 @@
--- `packet::format` meets its contract, as what it calls does.
+-- `packet::format` meets its contract, a code at a time.
 use borrow.Author.Tests.{ne-eqb}
 use borrow.Author.Needs.{needs}
 use Rattle.reading.proofs.packet.format.Statement.{statement}

@@ -1,4 +1,4 @@
--- `packet::word_or_zero` meets its contract, as what it calls does.
+-- `packet::word_or_zero` meets its contract: the word is there, or it is 0.
 use mathlib.Core.Path.{sym}
 use lib.ListN.{List·getD-eq-default}
 use borrow.Author.Needs.{needs}

@@ -1,4 +1,4 @@
--- `message::packets_in` meets its contract, as what it calls does.
+-- `message::packets_in` meets its contract, case by case.
 use borrow.Author.Needs.{needs}
 use Rattle.records.proofs.message.packets_in.Statement.{statement}
 use Rattle.records.proofs.message.packets_in.Tie as tie

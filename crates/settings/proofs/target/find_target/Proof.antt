@@ -1,4 +1,4 @@
--- `target::find_target` meets its contract, as what it calls does.
+-- `target::find_target` meets its contract, by each answer of the walk.
 use borrow.Author.Needs.{needs}
 use Rattle.settings.proofs.target.find_target.Statement.{statement}
 use Rattle.settings.proofs.target.find_target.Tie as tie
