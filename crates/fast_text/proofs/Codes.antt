@@ -1,24 +1,19 @@
 -- A step of the numbers is a step of what is due. Closed by a computed test of the 9 states at each of the 256 bytes.
-use Prim.Native.Nat.{ℕ, zero, suc, _+_, _*_, _/_, _%_, _^_, _≤_, _<_}
+use Prim.Native.Nat.{ℕ, zero, suc, _*_, _/_, _%_, _<_}
 use mathlib.Core.Path.{_≡_, refl, sym, subst, _∙_}
-use mathlib.Core.Bool.{Bool, true, false, not, _&&_}
+use mathlib.Core.Bool.{Bool, _&&_}
 use mathlib.Core.Option.{none, some}
 use mathlib.Core.List.{List, [], _∷_}
 use native.Mathlib.Omega.{arith}
-use lib.Dec.{T, eqb, eqb→eq, eqb·suc-zero, ltb, ltb→lt, leb}
+use lib.Dec.{T, eqb, eqb→eq, eqb·suc-zero, ltb, ltb→lt}
 use lib.ListN.{getD}
-use borrow.Author.Tests.{eqb-true, leb-true, eq-eqb, ne-eqb, le-leb}
 use Rattle.laws.specs.Pick.{pick}
-use Rattle.laws.proofs.Pick.{true-false, split}
-use Rattle.laws.proofs.Bytes.{eachBelow, at, and-left, and-right, and-l, and-r, implied, implied-holds}
-use Rattle.laws.proofs.Bits.{two-high}
+use Rattle.laws.proofs.Bytes.{eachBelow, at, and-left, and-right}
 use Rattle.utf8.specs.Utf8.{_‥_, tail, after}
 use Rattle.utf8.proofs.Same.{same-ranges, same, same-eq}
-use Rattle.laws.specs.Bits.{wordOf}
 use Rattle.text.specs.Octets.{octetOf}
 use Rattle.text.proofs.Back.{octet-small}
-use Rattle.text.proofs.First.{octets-of}
-use Rattle.fast_text.specs.Fast.{rowOf, stepOf, leadOf, tailOf, pairOf, plainOf, givenOf, threeOf}
+use Rattle.fast_text.specs.Fast.{Code, rowOf, stepOf, fourOf, givenOf}
 use Rattle.fast_text.proofs.Due.{Due, ready, nextDue, isReady}
 
 -- ---- the states: 6 k stands for what is due at k, and 48 for bad text
@@ -37,11 +32,6 @@ dues =
 
 pub dueAt : ℕ → Due
 dueAt s = getD dues (s / 6) none
-
--- a number that stands for a state
-pub record Code (s : ℕ) : Type 0 where
-  pub sixes : s % 6 ≡ 0
-  pub below : s < 54
 
 pub code-zero : Code 0
 code-zero = record { sixes = refl; below = omega arith }
@@ -98,6 +88,33 @@ next-six k b h l =
 pub next-law : (s b : ℕ) → Code s → b < 256 → Next s b
 next-law s b c l = by-code (λ m. Next m b) (λ k h. next-six k b h l) s c
 
+-- a zero changes no state
+stay-test : ℕ → Bool
+stay-test k = eqb (stepOf (6 * k) 0) (6 * k)
+
+stay-six : (k : ℕ) → k < 9 → stepOf (6 * k) 0 ≡ 6 * k
+unfolding stay-test stepOf rowOf
+stay-six k h = eqb→eq (stepOf (6 * k) 0) (6 * k) (at stay-test 9 tt k h)
+
+zero-stays : (s : ℕ) → Code s → stepOf s 0 ≡ s
+zero-stays s c = by-code (λ m. stepOf m 0 ≡ m) stay-six s c
+
+pub zeros-stay : (s a b : ℕ) → Code s → a ≡ 0 → b ≡ 0 → s ≡ stepOf (stepOf s a) b
+zeros-stay s a b c p q = sym (rw (p, q, zero-stays s c) (zero-stays s c))
+
+-- steps from a state lead to a state
+pub code-two : (s a b : ℕ) → Code s → a < 256 → b < 256 → Code (stepOf (stepOf s a) b)
+code-two s a b c la lb = next-law (stepOf s a) b (next-law s a c la .code) lb .code
+
+pub code-four : (s w : ℕ) → Code s → Code (fourOf s w)
+code-four s w c =
+    let half = code-two s (octetOf w 0) (octetOf w 1) c (octet-small w 0) (octet-small w 1) in
+    code-two (stepOf (stepOf s (octetOf w 0)) (octetOf w 1)) (octetOf w 2) (octetOf w 3) half (octet-small w 2) (octet-small w 3)
+
+-- what is told at once is the number that the steps lead to
+pub coded : {r x : ℕ} → x ≡ r → Code x → (r ≡ x) × Code r
+coded e c = (sym e, subst Code e c)
+
 -- no character is open at 0, and at no other state
 pub ready-law : (s : ℕ) → Code s → isReady (dueAt s) ≡ eqb s 0
 unfolding dueAt dues
@@ -137,139 +154,3 @@ given-law s zero c l = let n = next-law s 1 c (omega arith) in record { code = n
 given-law s (suc b) c l =
     let n = next-law s (suc b) c l in
     record { code = rw eqb·suc-zero (n .code); due = rw eqb·suc-zero (rw eqb·suc-zero at (n .due)) }
-
--- ---- plain bytes leave the state in which no character is open
-
-plain-test : ℕ → Bool
-plain-test b = eqb (stepOf 0 b) 0
-
-pub plain-step : (b : ℕ) → T (ltb b 128) → stepOf 0 b ≡ 0
-unfolding plain-test stepOf rowOf
-plain-step b h = eqb→eq (stepOf 0 b) 0 (at plain-test 128 tt b (ltb→lt b 128 h))
-
-pub plain-octets : (w : ℕ) → plainOf w ≡ true → T (ltb (octetOf w 0) 128) × T (ltb (octetOf w 1) 128) × T (ltb (octetOf w 2) 128) × T (ltb (octetOf w 3) 128)
-unfolding plainOf
-plain-octets w e =
-    let t = subst T (sym e) tt in
-    let f = ltb (octetOf w 0) 128 in
-    let g = ltb (octetOf w 1) 128 in
-    let h = ltb (octetOf w 2) 128 in
-    let i = ltb (octetOf w 3) 128 in
-    let u = and-right f (g && (h && i)) t in
-    let v = and-right g (h && i) u in
-    (and-left f (g && (h && i)) t, and-left g (h && i) u, and-left h i v, and-right h i v)
-
-pub plain-given : (b : ℕ) → T (ltb b 128) → givenOf 0 b ≡ 0
-unfolding givenOf
-plain-given b h = go (eqb b 0)
-  where
-    go : (t : Bool) → stepOf 0 (pick t 1 b) ≡ 0
-    go true = plain-step 1 tt
-    go false = plain-step b h
-
--- ---- a character of three bytes: its first byte opens it, and two tails end it
-
--- where the condition holds, the state is as told, zeros dropped or not
-open-test : ℕ → Bool
-open-test b = implied (leadOf b) (eqb (stepOf 0 b) 12 && eqb (givenOf 0 b) 12)
-
-first-test : ℕ → Bool
-first-test b = implied (tailOf b) (eqb (stepOf 12 b) 6 && eqb (givenOf 12 b) 6)
-
-last-test : ℕ → Bool
-last-test b = implied (tailOf b) (eqb (stepOf 6 b) 0 && eqb (givenOf 6 b) 0)
-
-pub record Leads (s b next : ℕ) : Type 0 where
-  pub step : stepOf s b ≡ next
-  pub given : givenOf s b ≡ next
-
-both-lead : (s b next : ℕ) → T (eqb (stepOf s b) next && eqb (givenOf s b) next) → Leads s b next
-both-lead s b next t =
-    record { step = eqb→eq (stepOf s b) next (and-left (eqb (stepOf s b) next) (eqb (givenOf s b) next) t); given = eqb→eq (givenOf s b) next (and-right (eqb (stepOf s b) next) (eqb (givenOf s b) next) t) }
-
-pub opens : (b : ℕ) → b < 256 → leadOf b ≡ true → Leads 0 b 12
-unfolding open-test givenOf stepOf rowOf
-opens b l e = both-lead 0 b 12 (implied-holds (leadOf b) _ e (at open-test 256 tt b l))
-
-pub tail-first : (b : ℕ) → b < 256 → tailOf b ≡ true → Leads 12 b 6
-unfolding first-test givenOf stepOf rowOf
-tail-first b l e = both-lead 12 b 6 (implied-holds (tailOf b) _ e (at first-test 256 tt b l))
-
-pub tail-last : (b : ℕ) → b < 256 → tailOf b ≡ true → Leads 6 b 0
-unfolding last-test givenOf stepOf rowOf
-tail-last b l e = both-lead 6 b 0 (implied-holds (tailOf b) _ e (at last-test 256 tt b l))
-
-pub three-octets : (w : ℕ) → threeOf w ≡ true → (tailOf (octetOf w 1) ≡ true) × (tailOf (octetOf w 2) ≡ true) × (leadOf (octetOf w 0) ≡ true)
-unfolding threeOf
-three-octets w e =
-    let f = tailOf (octetOf w 1) in
-    let g = tailOf (octetOf w 2) in
-    let h = leadOf (octetOf w 0) in
-    let u = and-r f (g && h) e in
-    (and-l f (g && h) e, and-l g h u, and-r g h u)
-
--- the same in numbers, as the code tests them
-pub record ThreeIn (w : ℕ) : Type 0 where
-  pub second : w / 0x10000 % 256 / 64 ≡ 2
-  pub third : w / 0x100 % 256 / 64 ≡ 2
-  pub least : 0xE1 ≤ w / 0x1000000 % 256
-  pub most : w / 0x1000000 % 256 ≤ 0xEF
-  pub other : w / 0x1000000 % 256 ≡ 0xED → ⊥
-
-three-in : (w : ℕ) → threeOf w ≡ true → ThreeIn w
-unfolding octetOf
-three-in w e =
-    let t = three-octets w e in
-    let first = w / 0x1000000 % 256 in
-    let rest = and-r (leb 0xE1 first) (leb first 0xEF && not (eqb first 0xED)) (t .2) in
-    record {
-      second = eqb-true _ _ (t .0);
-      third = eqb-true _ _ (t .1);
-      least = leb-true _ _ (and-l (leb 0xE1 first) (leb first 0xEF && not (eqb first 0xED)) (t .2));
-      most = leb-true _ _ (and-l (leb first 0xEF) (not (eqb first 0xED)) rest);
-      other = λ q. true-false (sym (rw (eq-eqb first 0xED q) at (and-r (leb first 0xEF) (not (eqb first 0xED)) rest)));
-    }
-
-pub second-high : (w : ℕ) → w / 0x400000 % 4 ≡ 2 → w / 0x10000 % 256 / 64 ≡ 2
-second-high w e = let d : w / 0x10000 / 64 ≡ w / 0x400000 = omega arith in two-high (w / 0x10000) ∙ rw d e
-
-pub third-high : (w : ℕ) → w / 0x4000 % 4 ≡ 2 → w / 0x100 % 256 / 64 ≡ 2
-third-high w e = let d : w / 0x100 / 64 ≡ w / 0x4000 = omega arith in two-high (w / 0x100) ∙ rw d e
-
--- between the words that start with EC and with EE there are those with ED alone
-gap : (a b c d : ℕ) → b / 64 ≡ 2 → c / 64 ≡ 2 → d < 256 → (a ≡ 0xED → ⊥) → 0xECBFBFFF < wordOf a b c d → wordOf a b c d < 0xEE808000 → ⊥
-gap a b c d hb hc hd ha l m = omega arith
-
-pub no-gap : (w : ℕ) → w < 2 ^ 32 → ThreeIn w → 0xECBFBFFF < w → w < 0xEE808000 → ⊥
-unfolding octetOf
-no-gap w small t l m =
-    let o = octets-of w small .0 in
-    gap (octetOf w 0) (octetOf w 1) (octetOf w 2) (octetOf w 3) (t .second) (t .third) (octet-small w 3) (t .other) (rw o l) (rw o m)
-
-pub is-three : (w : ℕ) → ThreeIn w → true ≡ threeOf w
-unfolding threeOf octetOf
-is-three w t =
-    rw (eq-eqb _ _ (t .second), eq-eqb _ _ (t .third), le-leb _ _ (t .least), le-leb _ _ (t .most), ne-eqb _ _ (t .other))
-
-pub no-three : (w : ℕ) → (ThreeIn w → ⊥) → false ≡ threeOf w
-no-three w h = split (threeOf w) (λ e. absurd (h (three-in w e))) (λ e. sym e)
-
--- two bytes of such characters are two of three on
-pub pair-leads : (s a b : ℕ) → a < 256 → b < 256 → pairOf s a b ≡ true → stepOf (stepOf s a) b ≡ (s + 6) % 18
-unfolding pairOf
-pair-leads s a b la lb e = split (eqb s 0) none (λ x. split (eqb s 6) (one x) (λ y. split (eqb s 12) (two x y) (λ z. true-false (sym (rw (x, y, z) at e)))))
-  where
-    none : eqb s 0 ≡ true → stepOf (stepOf s a) b ≡ (s + 6) % 18
-    none x =
-        let t : leadOf a && tailOf b ≡ true = rw x at e in
-        rw (eqb-true s 0 x, opens a la (and-l (leadOf a) (tailOf b) t) .step) (tail-first b lb (and-r (leadOf a) (tailOf b) t) .step)
-
-    one : eqb s 0 ≡ false → eqb s 6 ≡ true → stepOf (stepOf s a) b ≡ (s + 6) % 18
-    one x y =
-        let t : tailOf a && leadOf b ≡ true = rw (x, y) at e in
-        rw (eqb-true s 6 y, tail-last a la (and-l (tailOf a) (leadOf b) t) .step) (opens b lb (and-r (tailOf a) (leadOf b) t) .step)
-
-    two : eqb s 0 ≡ false → eqb s 6 ≡ false → eqb s 12 ≡ true → stepOf (stepOf s a) b ≡ (s + 6) % 18
-    two x y z =
-        let t : tailOf a && tailOf b ≡ true = rw (x, y, z) at e in
-        rw (eqb-true s 12 z, tail-first a la (and-l (tailOf a) (tailOf b) t) .step) (tail-last b lb (and-r (tailOf a) (tailOf b) t) .step)

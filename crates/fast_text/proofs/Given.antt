@@ -1,23 +1,26 @@
 -- A text as it is given: a byte more, and whole characters that a look tells. Closed by the steps of `Stands`, at the bytes that are left.
 use Prim.Native.Nat.{ℕ, _+_, _≤_, _<_}
 use mathlib.Core.Path.{_≡_, refl, sym, ap, _∙_}
+use mathlib.Core.Logic.{⊎-elim}
 use mathlib.Core.Bool.{Bool, true}
 use mathlib.Core.List.{List}
 use native.Mathlib.Nat.{add-zero}
 use native.Mathlib.Numerals.{add-one}
 use native.Mathlib.Omega.{arith}
-use lib.Dec.{T, eqb, ltb, lt→ltb, lit≤}
+use lib.Dec.{eqb, lit≤}
 use lib.ListN.{length, getD, drop, drop-of-length-le}
 use lib.Seq.{drop-cons}
-use Rattle.laws.proofs.Pick.{split}
+use Rattle.laws.proofs.Pick.{split, below}
+use Rattle.laws.proofs.Bytes.{three-hold}
 use Rattle.utf8.specs.Utf8.{firstBad}
 use Rattle.text.specs.Octets.{octetOf}
 use Rattle.text.proofs.Back.{octet-word}
 use Rattle.text.specs.Four.{joinedAt}
 use Rattle.text.proofs.Fours.{joined-in}
-use Rattle.fast_text.specs.Fast.{isGood, plainOf, givenOf, threeOf, wholeOf, Past}
+use Rattle.fast_text.specs.Fast.{isGood, plainOf, givenOf, threeOf, lastThree, fromNone, fromOne, fromTwo, twelveAt, wholeOf, Past}
 use Rattle.fast_text.proofs.Due.{Due, passes, good-law}
-use Rattle.fast_text.proofs.Codes.{due-zero, plain-octets, plain-given, three-octets, opens, tail-first, tail-last}
+use Rattle.fast_text.proofs.Codes.{due-zero}
+use Rattle.fast_text.proofs.Known.{Leads, Walk, plain-walk, none-walk, one-walk, two-walk, three-leads, last-leads}
 use Rattle.fast_text.proofs.Stands.{Stands, stands-first, stands-end, given-step}
 
 module _ (text : List ℕ) (v : Bool) where
@@ -29,7 +32,7 @@ module _ (text : List ℕ) (v : Bool) where
   finish s i h st = stands-end s _ (rw (drop-of-length-le text h) at st)
 
   -- where no character is open, what is left says it
-  pub open-none : (i : ℕ) → isGood (firstBad (drop i text)) ≡ v → At 0 i
+  open-none : (i : ℕ) → isGood (firstBad (drop i text)) ≡ v → At 0 i
   open-none i e = rw e at (stands-first (drop i text))
 
   none-open : (i : ℕ) → At 0 i → isGood (firstBad (drop i text)) ≡ v
@@ -43,46 +46,47 @@ module _ (text : List ℕ) (v : Bool) where
     known : (s t i : ℕ) → i < length text → givenOf s (getD text i 0) ≡ t → At s i → At t (i + 1)
     known s t i h e st = rw e at (turn s i h st)
 
-    plain-turn : (i : ℕ) → i < length text → T (ltb (getD text i 0) 128) → At 0 i → At 0 (i + 1)
-    plain-turn i h b st = known 0 0 i h (plain-given (getD text i 0) b) st
+    module _ (i : ℕ) (h : i + 4 ≤ length text) where
+      abbrev w : ℕ
+      w = joinedAt text i
 
-    module _ (i : ℕ) (st : At 0 i) where
-      -- a plain byte
-      pub one-turn : i < length text → getD text i 0 < 128 → At 0 (i + 1)
-      one-turn h b = plain-turn i h (lt→ltb _ _ b) st
+      octets : (octetOf w 0 ≡ getD text i 0) × (octetOf w 1 ≡ getD text (i + 1) 0) × (octetOf w 2 ≡ getD text (i + 2) 0) × (octetOf w 3 ≡ getD text (i + 3) 0)
+      octets = rw (joined-in text i h) (octet-word (getD text i 0) (getD text (i + 1) 0) (getD text (i + 2) 0) (getD text (i + 3) 0) (small i) (small (i + 1)) (small (i + 2)) (small (i + 3)))
 
-      module _ (h : i + 4 ≤ length text) where
-        abbrev w : ℕ
-        w = joinedAt text i
+      e₂ : i + 1 + 1 ≡ i + 2
+      e₂ = omega arith
 
-        octets : (octetOf w 0 ≡ getD text i 0) × (octetOf w 1 ≡ getD text (i + 1) 0) × (octetOf w 2 ≡ getD text (i + 2) 0) × (octetOf w 3 ≡ getD text (i + 3) 0)
-        octets = rw (joined-in text i h) (octet-word (getD text i 0) (getD text (i + 1) 0) (getD text (i + 2) 0) (getD text (i + 3) 0) (small i) (small (i + 1)) (small (i + 2)) (small (i + 3)))
+      e₃ : i + 2 + 1 ≡ i + 3
+      e₃ = omega arith
 
-        e₂ : i + 1 + 1 ≡ i + 2
-        e₂ = omega arith
+      e₄ : i + 3 + 1 ≡ i + 4
+      e₄ = omega arith
 
-        e₃ : i + 2 + 1 ≡ i + 3
-        e₃ = omega arith
+      -- a byte of the four
+      first-turn : {s t : ℕ} → Leads s (octetOf w 0) t → At s i → At t (i + 1)
+      first-turn {s} {t} k st = known s t i (omega arith) (rw (octets .0) at (k .given)) st
 
-        e₄ : i + 3 + 1 ≡ i + 4
-        e₄ = omega arith
+      second-turn : {s t : ℕ} → Leads s (octetOf w 1) t → At s (i + 1) → At t (i + 2)
+      second-turn {s} {t} k st = rw e₂ at (known s t (i + 1) (omega arith) (rw (octets .1) at (k .given)) st)
 
-        -- four plain bytes
-        pub four-turn : plainOf w ≡ true → At 0 (i + 4)
-        four-turn e =
-            let t = rw (octets .0, octets .1, octets .2, octets .3) at (plain-octets w e) in
-            let first = plain-turn i (omega arith) (t .0) st in
-            let second = (rw e₂ at (plain-turn (i + 1) (omega arith) (t .1) first)) in
-            let third = (rw e₃ at (plain-turn (i + 2) (omega arith) (t .2) second)) in
-            rw e₄ at (plain-turn (i + 3) (omega arith) (t .3) third)
+      third-turn : {s t : ℕ} → Leads s (octetOf w 2) t → At s (i + 2) → At t (i + 3)
+      third-turn {s} {t} k st = rw e₃ at (known s t (i + 2) (omega arith) (rw (octets .2) at (k .given)) st)
 
-        -- a character of three
-        pub three-turn : threeOf w ≡ true → At 0 (i + 3)
-        three-turn e =
-            let t = rw (octets .0, octets .1, octets .2) at (three-octets w e) in
-            let first = known 0 12 i (omega arith) (opens (getD text i 0) (small i) (t .2) .given) st in
-            let second = (rw e₂ at (known 12 6 (i + 1) (omega arith) (tail-first (getD text (i + 1) 0) (small (i + 1)) (t .0) .given) first)) in
-            rw e₃ at (known 6 0 (i + 2) (omega arith) (tail-last (getD text (i + 2) 0) (small (i + 2)) (t .1) .given) second)
+      fourth-turn : {s t : ℕ} → Leads s (octetOf w 3) t → At s (i + 3) → At t (i + 4)
+      fourth-turn {s} {t} k st = rw e₄ at (known s t (i + 3) (omega arith) (rw (octets .3) at (k .given)) st)
+
+      -- the last two, the last three, the first three, all four
+      two-turn : {s t u : ℕ} → Leads s (octetOf w 2) t → Leads t (octetOf w 3) u → At s (i + 2) → At u (i + 4)
+      two-turn k l st = fourth-turn l (third-turn k st)
+
+      last-turn : {s t u x : ℕ} → Leads s (octetOf w 1) t → Leads t (octetOf w 2) u → Leads u (octetOf w 3) x → At s (i + 1) → At x (i + 4)
+      last-turn k l m st = two-turn l m (second-turn k st)
+
+      three-turn : {s t u x : ℕ} → Leads s (octetOf w 0) t → Leads t (octetOf w 1) u → Leads u (octetOf w 2) x → At s i → At x (i + 3)
+      three-turn k l m st = third-turn m (second-turn l (first-turn k st))
+
+      word-turn : {s₀ s₁ s₂ s₃ s₄ : ℕ} → Walk w s₀ s₁ s₂ s₃ s₄ → At s₀ i → At s₄ (i + 4)
+      word-turn k st = last-turn (k .second) (k .third) (k .fourth) (first-turn (k .first) st)
 
 -- ---- bytes passed that are whole characters
 pub past-none : (text : List ℕ) (i : ℕ) → i ≤ length text → Past text i i
@@ -95,23 +99,64 @@ past-more p q = record { onward = omega (arith, p .onward, q .onward); within = 
 pub past-at : (text : List ℕ) (v : Bool) (i j : ℕ) → Past text i j → At text v 0 i → At text v 0 j
 past-at text v i j p st = open-none text v j (p .same ∙ none-open text v i st)
 
-module _ (text : List ℕ) (small : (k : ℕ) → getD text k 0 < 256) (i : ℕ) where
-  start : At text (isGood (firstBad (drop i text))) 0 i
-  start = open-none text _ i refl
+module _ (text : List ℕ) (small : (k : ℕ) → getD text k 0 < 256) where
+  start : (i : ℕ) → At text (isGood (firstBad (drop i text))) 0 i
+  start i = open-none text _ i refl
 
-  passed-to : (k : ℕ) → i + k ≤ length text → At text (isGood (firstBad (drop i text))) 0 (i + k) → Past text i (i + k)
-  passed-to k h st = record { onward = omega arith; within = h; same = none-open text _ (i + k) st }
+  passed-to : (i j : ℕ) → i ≤ j → j ≤ length text → At text (isGood (firstBad (drop i text))) 0 j → Past text i j
+  passed-to i j o h st = record { onward = o; within = h; same = none-open text _ j st }
 
-  pub past-one : i < length text → getD text i 0 < 128 → Past text i (i + 1)
-  past-one h b = passed-to 1 (omega arith) (one-turn text _ small i start h b)
+  module _ (i : ℕ) (h : i + 4 ≤ length text) where
+    -- four plain bytes, or a character of three
+    pub past-four : plainOf (joinedAt text i) ≡ true → Past text i (i + 4)
+    past-four e = passed-to i (i + 4) (omega arith) h (word-turn text _ small i h (plain-walk (joinedAt text i) e) (start i))
 
-  -- what a look at four bytes tells
-  pub past-look : i + 4 ≤ length text → Past text i (i + wholeOf (joinedAt text i))
-  unfolding wholeOf
-  past-look h =
-      split (plainOf (joinedAt text i)) (λ e. rw e (passed-to 4 h (four-turn text _ small i start h e)))
-      (λ e. split (threeOf (joinedAt text i)) (λ f. rw (e, f) (passed-to 3 (omega arith) (three-turn text _ small i start h f)))
-      (λ f. rw (e, f, add-zero i) (past-none text i (omega arith))))
+    past-three : threeOf (joinedAt text i) ≡ true → Past text i (i + 3)
+    past-three e =
+        let k = three-leads (joinedAt text i) e in
+        passed-to i (i + 3) (omega arith) (omega arith) (three-turn text _ small i h (k .0) (k .1) (k .2) (start i))
+
+    -- what a look at four bytes tells
+    pub past-look : Past text i (i + wholeOf (joinedAt text i))
+    unfolding wholeOf
+    past-look =
+        split (plainOf (joinedAt text i)) (λ e. rw e (past-four e))
+        (λ e. split (threeOf (joinedAt text i)) (λ f. rw (e, f) (past-three f))
+        (λ f. rw (e, f, add-zero i) (past-none text i (omega arith))))
+
+    -- of the last four bytes those that are left, plain ones
+    last-plain : plainOf (joinedAt text i) ≡ true → (Past text (i + 1) (i + 4)) × (Past text (i + 2) (i + 4)) × (Past text (i + 3) (i + 4))
+    last-plain e =
+        let k = plain-walk (joinedAt text i) e in (
+          passed-to (i + 1) (i + 4) (omega arith) h (last-turn text _ small i h (k .second) (k .third) (k .fourth) (start (i + 1))),
+          passed-to (i + 2) (i + 4) (omega arith) h (two-turn text _ small i h (k .third) (k .fourth) (start (i + 2))),
+          passed-to (i + 3) (i + 4) (omega arith) h (fourth-turn text _ small i h (k .fourth) (start (i + 3))),
+        )
+
+    pub past-left : (from n : ℕ) → i + 4 ≡ n → i < from → from < n → plainOf (joinedAt text i) ≡ true → Past text from n
+    past-left from n e l m p =
+        let t = last-plain p in
+        ⊎-elim (λ (x : from < i + 2). let q : from ≡ i + 1 = omega arith in rw (q, sym e) (t .0))
+        (λ (x : i + 2 ≤ from). ⊎-elim (λ (y : from < i + 3). let q : from ≡ i + 2 = omega arith in rw (q, sym e) (t .1))
+        (λ (y : i + 3 ≤ from). let q : from ≡ i + 3 = omega arith in rw (q, sym e) (t .2)) (below from (i + 3))) (below from (i + 2))
+
+    -- or one character
+    pub past-last : (from n : ℕ) → i + 4 ≡ n → i + 1 ≡ from → lastThree (joinedAt text i) ≡ true → Past text from n
+    past-last from n e f p =
+        let k = last-leads (joinedAt text i) p in
+        rw (sym e, sym f) (passed-to (i + 1) (i + 4) (omega arith) h (last-turn text _ small i h (k .0) (k .1) (k .2) (start (i + 1))))
+
+  -- four characters of three
+  pub past-twelve : (i : ℕ) → i + 12 ≤ length text → twelveAt text i ≡ true → Past text i (i + 12)
+  unfolding twelveAt
+  past-twelve i h e =
+      let t = three-hold (fromNone (joinedAt text i)) (fromTwo (joinedAt text (i + 4))) (fromOne (joinedAt text (i + 8))) e in
+      let e₈ : i + 4 + 4 ≡ i + 8 = omega arith in
+      let e₁₂ : i + 8 + 4 ≡ i + 12 = omega arith in
+      let first = word-turn text _ small i (omega arith) (none-walk _ (t .0)) (start i) in
+      let second = (rw e₈ at (word-turn text _ small (i + 4) (omega arith) (two-walk _ (t .1)) first)) in
+      let third = (rw e₁₂ at (word-turn text _ small (i + 8) (omega arith) (one-walk _ (t .2)) second)) in
+      passed-to i (i + 12) (omega arith) h third
 
 pub look-most : (w : ℕ) → wholeOf w ≤ 4
 unfolding wholeOf

@@ -1,5 +1,6 @@
 pub mod Due
 pub mod Codes
+pub mod Known
 pub mod Stands
 pub mod Shown
 pub mod Plains

@@ -39,6 +39,17 @@ octet-left : (w n j : ℕ) → j < 4 → 4 ≤ j + n → octetOf (w % 2 ^ bitsOf
 unfolding octetOf
 octet-left w n j l h = low-field w (bitsOf n) (24 - j * 8) 8 (bits-many n j l h)
 
+-- fewer octets that are left have no others
+pub octet-fewer : (w n m j bound : ℕ) → m ≤ n → j < 4 → 0 < bound → octetOf (w % 2 ^ bitsOf n) j < bound → octetOf (w % 2 ^ bitsOf m) j < bound
+octet-fewer w n m j bound l h some b =
+    ⊎-elim (λ (k : j + m < 4). rw (octet-cut w m j k) some)
+    (λ (k : 4 ≤ j + m). rw (octet-left w m j h k, sym (octet-left w n j h (omega arith))) b)
+    (below (j + m) 4)
+
+pub masked : (w end offset : ℕ) → bitAnd w (maskOf end offset) ≡ w % 2 ^ bitsOf (end - offset)
+unfolding maskOf
+masked w end offset = and-mask w (bitsOf (end - offset))
+
 -- ---- packets
 
 module _ (ws : List ℕ) (offset : ℕ) where
@@ -98,17 +109,13 @@ module _ (ws : List ℕ) (offset : ℕ) where
   pub begin : (n : ℕ) → At 0 0 n
   begin n = rw (sub-zero, shown-text n) (stands-first (textOf ws (14 - offset) n))
 
-  masked : (w end : ℕ) → bitAnd w (maskOf end offset) ≡ w % 2 ^ bitsOf (end - offset)
-  unfolding maskOf
-  masked w end = and-mask w (bitsOf (end - offset))
-
   pub turn : (s p n : ℕ) → p < n → At s p n → At (fourOf (fourOf (fourOf (fourOf s (bitAnd (getD ws (p * 4) 0) (maskOf 2 offset))) (bitAnd (getD ws (p * 4 + 1) 0) (maskOf 6 offset))) (bitAnd (getD ws (p * 4 + 2) 0) (maskOf 10 offset))) (bitAnd (getD ws (p * 4 + 3) 0) (maskOf 14 offset))) (p + 1) n
   unfolding tabulate
   turn s p n h st =
       let m : n - p ≡ suc (n - suc p) = omega arith in
       let q : p + 1 ≡ suc p = omega arith in
-      let first = masked (getD ws (p * 4) 0) 2 ∙ ap (λ (k : ℕ). getD ws k 0 % 2 ^ bitsOf (2 - offset)) (sym (add-zero (p * 4))) in
-      rw (q, first, masked (getD ws (p * 4 + 1) 0) 6, masked (getD ws (p * 4 + 2) 0) 10, masked (getD ws (p * 4 + 3) 0) 14)
+      let first = masked (getD ws (p * 4) 0) 2 offset ∙ ap (λ (k : ℕ). getD ws k 0 % 2 ^ bitsOf (2 - offset)) (sym (add-zero (p * 4))) in
+      rw (q, first, masked (getD ws (p * 4 + 1) 0) 6 offset, masked (getD ws (p * 4 + 2) 0) 10 offset, masked (getD ws (p * 4 + 3) 0) 14 offset)
       (read-four (shownWord ws offset p 3) _ (read-four (shownWord ws offset p 2) _ (read-four (shownWord ws offset p 1) _ (read-four (shownWord ws offset p 0) _ (rw m at st)))))
 
   pub finish : (s p n : ℕ) → n ≤ p → At s p n → eqb s 0 ≡ isGood (firstBad (textOf ws (14 - offset) n))

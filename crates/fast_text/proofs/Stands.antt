@@ -9,9 +9,9 @@ use Rattle.laws.specs.Lists.{nonzero}
 use Rattle.utf8.specs.Utf8.{firstBad}
 use Rattle.text.specs.Octets.{octetOf}
 use Rattle.text.proofs.Back.{octet-small}
-use Rattle.fast_text.specs.Fast.{isGood, stepOf, fourOf, plainOf, givenOf}
+use Rattle.fast_text.specs.Fast.{isGood, Code, stepOf, fourOf, givenOf}
 use Rattle.fast_text.proofs.Due.{Due, nextDue, passes, good-law, passes-none}
-use Rattle.fast_text.proofs.Codes.{Code, dueAt, code-zero, due-zero, due-bad, readDue, next-law, given-law, ready-law, plain-step, plain-octets}
+use Rattle.fast_text.proofs.Codes.{dueAt, code-zero, due-zero, due-bad, readDue, next-law, given-law, ready-law}
 
 -- at state s, with the bytes xs left, the check will say v
 pub record Stands (s : ℕ) (xs : List ℕ) (v : Bool) : Type 0 where
@@ -51,11 +51,6 @@ read-four w xs h =
     (read-step (octetOf w 3 ∷ xs) (octet-small w 2)
     (read-step (octetOf w 2 ∷ octetOf w 3 ∷ xs) (octet-small w 1)
     (read-step (octetOf w 1 ∷ octetOf w 2 ∷ octetOf w 3 ∷ xs) (octet-small w 0) h)))
-
-pub plain-four : (w : ℕ) → plainOf w ≡ true → fourOf 0 w ≡ 0
-plain-four w e =
-    let t = plain-octets w e in
-    rw (plain-step (octetOf w 0) (t .0), plain-step (octetOf w 1) (t .1), plain-step (octetOf w 2) (t .2), plain-step (octetOf w 3) (t .3))
 
 -- ---- a byte, nothing dropped
 

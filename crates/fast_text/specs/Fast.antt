@@ -1,5 +1,5 @@
 -- The numbers that the fast check steps through, and which octets of a packet's words it looks at.
-use Prim.Native.Nat.{ℕ, _+_, _-_, _*_, _/_, _%_, _^_, _≤_}
+use Prim.Native.Nat.{ℕ, _+_, _-_, _*_, _/_, _%_, _^_, _≤_, _<_}
 use mathlib.Core.Path.{_≡_}
 use mathlib.Core.Bool.{Bool, true, false, not, _&&_}
 use mathlib.Core.List.{List, [], _∷_}
@@ -11,6 +11,7 @@ use Rattle.utf8.specs.Utf8.{firstBad}
 use Rattle.utf8.specs.declared.Utf8.{Utf8}
 use Rattle.utf8.specs.declared.Utf8.the-variants.{Good, BadAt}
 use Rattle.text.specs.Octets.{octetOf}
+use Rattle.text.specs.Four.{joinedAt}
 
 -- a verdict without its place
 abbrev pub isGood : Utf8 → Bool
@@ -69,22 +70,71 @@ movesOf k = getD move-list k 0x30c30c30c30c30
 unfoldable pub rowOf : ℕ → ℕ
 rowOf b = movesOf (classesOf (b / 16) / 2 ^ (b % 16 * 4) % 16)
 
+-- a number that stands for a state
+pub record Code (s : ℕ) : Type 0 where
+  pub sixes : s % 6 ≡ 0
+  pub below : s < 54
+
 -- the state after a byte
 unfoldable pub stepOf : ℕ → ℕ → ℕ
 stepOf s b = rowOf b / 2 ^ s % 64
 
 -- ---- characters of three bytes, without the tables
 
+-- one of E0..EF
+abbrev pub highOf : ℕ → Bool
+highOf b = eqb (b / 16) 14
+
+-- of these, neither E0 nor ED
+abbrev pub freeOf : ℕ → Bool
+freeOf b = not (eqb (b % 16) 0) && not (eqb (b % 16) 13)
+
 -- a first byte after which any two tails may come
 abbrev pub leadOf : ℕ → Bool
-leadOf b = leb 0xE1 b && (leb b 0xEF && not (eqb b 0xED))
+leadOf b = highOf b && freeOf b
 
+-- a tail, one of 80..BF
 abbrev pub tailOf : ℕ → Bool
 tailOf b = eqb (b / 64) 2
 
 -- two bytes go on with such characters: from where none is open, or one tail is due, or two
 unfoldable pub pairOf : ℕ → ℕ → ℕ → Bool
 pairOf s a b = pick (eqb s 0) (leadOf a && tailOf b) (pick (eqb s 6) (tailOf a && leadOf b) (pick (eqb s 12) (tailOf a && tailOf b) false))
+
+-- the first three octets of a word are such a character
+unfoldable pub threeOf : ℕ → Bool
+threeOf w = highOf (octetOf w 0) && (tailOf (octetOf w 1) && (tailOf (octetOf w 2) && freeOf (octetOf w 0)))
+
+-- the last three are
+unfoldable pub lastThree : ℕ → Bool
+lastThree w = highOf (octetOf w 1) && (tailOf (octetOf w 2) && (tailOf (octetOf w 3) && freeOf (octetOf w 1)))
+
+-- the octets of a word go on with such characters, from where none is open
+unfoldable pub fromNone : ℕ → Bool
+fromNone w = highOf (octetOf w 0) && (tailOf (octetOf w 1) && (tailOf (octetOf w 2) && (highOf (octetOf w 3) && (freeOf (octetOf w 0) && freeOf (octetOf w 3)))))
+
+-- the same from where one tail is due
+unfoldable pub fromOne : ℕ → Bool
+fromOne w = tailOf (octetOf w 0) && (highOf (octetOf w 1) && (tailOf (octetOf w 2) && (tailOf (octetOf w 3) && freeOf (octetOf w 1))))
+
+-- the same from where two are
+unfoldable pub fromTwo : ℕ → Bool
+fromTwo w = tailOf (octetOf w 0) && (tailOf (octetOf w 1) && (highOf (octetOf w 2) && (tailOf (octetOf w 3) && freeOf (octetOf w 2))))
+
+-- the same from any state
+unfoldable pub quadOf : ℕ → ℕ → Bool
+quadOf s w = pick (eqb s 0) (fromNone w) (pick (eqb s 6) (fromOne w) (pick (eqb s 12) (fromTwo w) false))
+
+-- the same of three words
+unfoldable pub runOf : ℕ → ℕ → ℕ → ℕ → Bool
+runOf s a b c =
+    pick (eqb s 0) (fromNone a && (fromTwo b && fromOne c))
+    (pick (eqb s 6) (fromOne a && (fromNone b && fromTwo c))
+    (pick (eqb s 12) (fromTwo a && (fromOne b && fromNone c)) false))
+
+-- the twelve bytes from byte i of a text on are four such characters
+unfoldable pub twelveAt : List ℕ → ℕ → Bool
+twelveAt text i = fromNone (joinedAt text i) && (fromTwo (joinedAt text (i + 4)) && fromOne (joinedAt text (i + 8)))
 
 -- ---- a word more
 
@@ -125,10 +175,6 @@ plainPacket ws offset p = pick (leb (length ws / 4) p) false (plainWords ws offs
 -- the state after a byte: after a zero it is that after any other ASCII byte
 unfoldable pub givenOf : ℕ → ℕ → ℕ
 givenOf s b = stepOf s (pick (eqb b 0) 1 b)
-
--- the first three octets are a character of three bytes that a look tells
-unfoldable pub threeOf : ℕ → Bool
-threeOf w = tailOf (octetOf w 1) && (tailOf (octetOf w 2) && leadOf (octetOf w 0))
 
 -- octets of a word, from the first on, that are whole characters: those that a look tells
 unfoldable pub wholeOf : ℕ → ℕ

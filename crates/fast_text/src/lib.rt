@@ -4,6 +4,7 @@ ghost use Prim.Native.Nat.{_-_, _/_};
 ghost use lib.ListN.{length};
 ghost use Rattle.utf8.specs.Utf8.{firstBad};
 ghost use Rattle.text.specs.Bytes.{textOf};
+ghost use Rattle.fast_text.specs.Fast.{isGood};
 use utf8::Utf8;
 
 mod bytes;
@@ -12,11 +13,18 @@ mod table;
 mod threes;
 mod words;
 
-// Whether the text of the whole packets is UTF-8, and where its first bad character starts.
+// Whether the text of the whole packets is UTF-8.
+pub fn good_text(words: &[u32], offset: usize) -> bool
+    ensures { λ r. ⌜ r ≡ isGood (firstBad (textOf (now (words .entry)) (14 - offset) (length (now (words .entry)) / 4))) ⌝ }
+{
+    words::all_good(words, offset)
+}
+
+// The same, and where its first bad character starts.
 pub fn check_text(words: &[u32], offset: usize) -> Utf8
     ensures { λ r. ⌜ r ≡ firstBad (textOf (now (words .entry)) (14 - offset) (length (now (words .entry)) / 4)) ⌝ }
 {
-    if words::all_good(words, offset) {
+    if good_text(words, offset) {
         return Utf8::Good;
     }
     text_check::check_text(words, offset)

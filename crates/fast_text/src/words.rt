@@ -1,34 +1,56 @@
-// The text of packets, a word at a time: its four octets, or at once where they are all plain, with what is not text masked.
+// The text of packets, a packet at a time, with what is not text masked: at once where a look tells it, and else octet by octet.
 ghost use mathlib.Core.Path.{_≡_};
 ghost use Prim.Native.Nat.{_-_, _/_, _<_};
 ghost use lib.ListN.{length};
 ghost use Rattle.utf8.specs.Utf8.{firstBad};
 ghost use Rattle.text.specs.Bytes.{textOf};
-ghost use Rattle.fast_text.specs.Fast.{isGood, stepOf, fourOf, plainOf, maskOf};
+ghost use Rattle.text.specs.Octets.{octetOf};
+ghost use Rattle.fast_text.specs.Fast.{isGood, Code, stepOf, fourOf, plainOf, maskOf};
 use crate::table::BAD;
 use crate::table::step;
 use crate::threes::pair;
+use crate::threes::quad;
+use crate::threes::run;
 
-// The state after two bytes, without the tables where they go on with characters of three.
+// The state after two octets, without the tables where they go on with characters of three.
 fn two(s: u64, a: u8, b: u8) -> u64
-    requires { ⌜ s < 64 ⌝ }
+    requires { ⌜ Code s ⌝ }
     ensures { λ r. ⌜ r ≡ stepOf (stepOf s a) b ⌝ }
-    ensures small { λ r. ⌜ r < 64 ⌝ }
+    ensures code { λ r. ⌜ Code r ⌝ }
 {
-    if pair(s, a, b) {
+    if pair(s, a as u32, b as u32) {
         return (s + 6) % 18;
     }
     step(step(s, a), b)
 }
 
-// The state after the four octets of w.
-fn four(s: u64, w: u32) -> u64
-    requires { ⌜ s < 64 ⌝ }
-    ensures { λ r. ⌜ r ≡ fourOf s w ⌝ }
-    ensures small { λ r. ⌜ r < 64 ⌝ }
+// The state after the first two octets of w: they are zero where what is not text is masked.
+fn half(s: u64, w: u32) -> u64
+    requires { ⌜ Code s ⌝ }
+    ensures { λ r. ⌜ r ≡ stepOf (stepOf s (octetOf w 0)) (octetOf w 1) ⌝ }
+    ensures code { λ r. ⌜ Code r ⌝ }
 {
-    let half = two(s, (w / 0x1000000 % 256) as u8, (w / 0x10000 % 256) as u8);
-    two(half, (w / 0x100 % 256) as u8, (w % 256) as u8)
+    if w < 0x10000 {
+        return s;
+    }
+    two(
+        s,
+        (w / 0x1000000 % 0x100) as u8,
+        (w / 0x10000 % 0x100) as u8,
+    )
+}
+
+// The state after the four octets of w: the last two are zero where a text ends.
+fn four(s: u64, w: u32) -> u64
+    requires { ⌜ Code s ⌝ }
+    ensures { λ r. ⌜ r ≡ fourOf s w ⌝ }
+    ensures code { λ r. ⌜ Code r ⌝ }
+{
+    let h = half(s, w);
+    if w % 0x10000 == 0 {
+        return h;
+    }
+    two(h, (w / 0x100 % 0x100) as u8, (w % 0x100) as u8)
 }
 
 // Whether all four octets are ASCII, or zero. The four tests become one.
@@ -47,18 +69,49 @@ pub(crate) fn plain(w: u32) -> bool
     w % 256 < 128
 }
 
-// The same as `four`, and at once where no character is open and all is plain.
+// The same as `four`, and at once where a look tells it.
 fn word(s: u64, w: u32) -> u64
-    requires { ⌜ s < 64 ⌝ }
+    requires { ⌜ Code s ⌝ }
     ensures { λ r. ⌜ r ≡ fourOf s w ⌝ }
-    ensures small { λ r. ⌜ r < 64 ⌝ }
+    ensures code { λ r. ⌜ Code r ⌝ }
 {
+    if quad(s, w) {
+        return (s + 12) % 18;
+    }
     if s == 0 {
         if plain(w) {
             return 0;
         }
     }
     four(s, w)
+}
+
+// The state after three words.
+fn three(s: u64, a: u32, b: u32, c: u32) -> u64
+    requires { ⌜ Code s ⌝ }
+    ensures { λ r. ⌜ r ≡ fourOf (fourOf (fourOf s a) b) c ⌝ }
+    ensures code { λ r. ⌜ Code r ⌝ }
+{
+    if run(s, a, b, c) {
+        return s;
+    }
+    word(word(word(s, a), b), c)
+}
+
+// The state after the four words of a packet.
+fn packet(s: u64, a: u32, b: u32, c: u32, d: u32) -> u64
+    requires { ⌜ Code s ⌝ }
+    ensures { λ r. ⌜ r ≡ fourOf (fourOf (fourOf (fourOf s a) b) c) d ⌝ }
+    ensures code { λ r. ⌜ Code r ⌝ }
+{
+    if s == 0 {
+        if plain(a) && plain(b) {
+            if plain(c) && plain(d) {
+                return 0;
+            }
+        }
+    }
+    three(four(s, a), b, c, d)
 }
 
 // The mask of the last octets of a word, as many as end is above offset, and at most all four.
@@ -89,10 +142,14 @@ pub(crate) fn all_good(words: &[u32], offset: usize) -> bool
     let mut s: u64 = 0;
     let mut p = 0;
     while p < n {
-        let a = word(s, words[p * 4] & m0);
-        let b = word(a, words[p * 4 + 1] & m1);
-        let c = word(b, words[p * 4 + 2] & m2);
-        s = word(c, words[p * 4 + 3] & m3);
+        let k = p * 4;
+        s = packet(
+            s,
+            words[k] & m0,
+            words[k + 1] & m1,
+            words[k + 2] & m2,
+            words[k + 3] & m3,
+        );
         if s == BAD {
             return false;
         }

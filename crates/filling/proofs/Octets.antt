@@ -1,14 +1,16 @@
--- The words of a text packet as the code makes them: the head, with the text bytes that reach into its word, and the words after it. Closed by arithmetic on the places.
+-- The words of a text packet as the code makes them: the head, with the text bytes that reach into its word, and the words after it, octet by octet or from a part of the text. Closed by arithmetic on the places.
 use Prim.Native.Nat.{ℕ, _+_, _-_, _*_, _/_, _^_, _<_, _≤_}
-use mathlib.Core.Path.{_≡_, sym, ap, _∙_}
+use mathlib.Core.Path.{_≡_, refl, sym, ap, _∙_}
 use mathlib.Core.List.{List}
 use native.Mathlib.Omega.{arith}
 use native.Mathlib.Nat.{mul-le-mul, add-zero}
-use lib.ListN.{getD}
+use lib.ListN.{length, getD, take, drop}
 use Rattle.laws.specs.Bits.{wordOf}
 use Rattle.laws.proofs.Bits.{high-two}
 use Rattle.text.specs.Octets.{due}
+use Rattle.text.specs.Four.{joinedAt}
 use Rattle.text.specs.Written.{octetAt, wordIn}
+use Rattle.text.proofs.Fours.{joined-part}
 use Rattle.text.proofs.Written.{octet-head, octet-text}
 use Rattle.text.proofs.Rewritten.{head-zero}
 use Rattle.text.proofs.First.{octets-of, word-2, word-3, word-4}
@@ -39,6 +41,17 @@ module _ (text : List ℕ) (head : ℕ → ℕ) (offset n p : ℕ) (room : offse
     pub word-of-text : (at : ℕ) → at ≡ p * (14 - offset) + (q * 4 - (2 + offset)) → wordOf (getD text at 0) (getD text (at + 1) 0) (getD text (at + 2) 0) (getD text (at + 3) 0) ≡ wordIn text head (14 - offset) n p q
     unfolding wordIn
     word-of-text at e = rw (e, in-text (q * 4) h, byte-of 1, byte-of 2, byte-of 3)
+
+-- ---- the words after the head's where the text starts in the head's
+module _ (text : List ℕ) (head : ℕ → ℕ) (offset n p : ℕ) (near : offset ≤ 1) where
+  place : (a q i : ℕ) → i + 4 ≡ q * 4 → a + (2 - offset) + i ≡ a + (q * 4 - (2 + offset))
+  place a q i e = omega arith
+
+  pub later-text : (q i at : ℕ) → i + 4 ≡ q * 4 → at ≡ p * (14 - offset) + (2 - offset) + i → wordOf (getD text at 0) (getD text (at + 1) 0) (getD text (at + 2) 0) (getD text (at + 3) 0) ≡ wordIn text head (14 - offset) n p q
+  later-text q i at e ea = word-of-text text head offset n p (omega arith) q (omega arith) at (ea ∙ place (p * (14 - offset)) q i e)
+
+  pub later-part : (q i len : ℕ) → i + 4 ≡ q * 4 → i + 4 ≤ len → p * (14 - offset) + (2 - offset) + len ≤ length text → joinedAt (take len (drop (p * (14 - offset) + (2 - offset)) text)) i ≡ wordIn text head (14 - offset) n p q
+  later-part q i len e h l = joined-part text (p * (14 - offset) + (2 - offset)) len l i h ∙ later-text q i (p * (14 - offset) + (2 - offset) + i) e refl
 
 -- ---- the first word
 module _ (text : List ℕ) (head : ℕ → ℕ) (offset n p h : ℕ) (e : h ≡ head (due n p)) (small : h < 2 ^ 32) where

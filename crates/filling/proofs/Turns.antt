@@ -25,6 +25,9 @@ pub none-filled : (f : ℕ → ℕ) (ws : List ℕ) → Filled 0 f ws ws
 unfolding upTo
 none-filled f ws = record { long = refl; is = refl }
 
+pub is-filled : (i : ℕ) (f : ℕ → ℕ) (found ws : List ℕ) → ws ≡ upTo i f found → Filled i f found ws
+is-filled i f found ws e = record { long = rw e (length-upTo i f found); is = e }
+
 module _ {i : ℕ} {f : ℕ → ℕ} {found ws : List ℕ} (w : Filled i f found ws) where
   -- from i on the buffer is as found
   pub filled-rest : (k : ℕ) → i ≤ k → getD ws k 0 ≡ getD found k 0

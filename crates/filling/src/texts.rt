@@ -102,6 +102,70 @@ fn fill_packet(words: &mut [u32], text: &[u8], offset: usize, head: u32, n: usiz
     words[k + 3] = later_word(text, offset, p, 3);
 }
 
+// The same of a packet that the text fills, from octet 2 or 3 on: its later words are twelve bytes of the text.
+fn fill_whole(words: &mut [u32], text: &[u8], offset: usize, head: u32, n: usize, p: usize)
+    requires { ⌜ (offset ≤ 1) × (p < 64) × (p * 4 + 4 ≤ length (now words)) × (p * (14 - offset) + (14 - offset) ≤ length (now text)) ⌝ }
+    ensures { λ _. ⌜ now (words .exit) ≡ setFour (wordIn (now (text .entry)) (formatted head) (14 - offset) n p) (p * 4) (now (words .entry)) ⌝ }
+{
+    let k = p * 4;
+    let from = p * (14 - offset) + (2 - offset);
+    let to = from + 12;
+    let part = &text[from..to];
+    words[k] = first_word(text, offset, head, n, p);
+    words[k + 1] = joined(part, 0);
+    words[k + 2] = joined(part, 4);
+    words[k + 3] = joined(part, 8);
+}
+
+// Packets from the first on, of n, as far as the text fills them: how many.
+fn fill_wholes(words: &mut [u32], text: &[u8], offset: usize, head: u32, n: usize) -> usize
+    requires { ⌜ (offset ≤ 1) × (n ≤ 64) × (n * 4 ≤ length (now words)) ⌝ }
+    ensures { λ r. ⌜ now (words .exit) ≡ upTo (r * 4) (wordNew (now (text .entry)) (formatted head) (14 - offset) n) (now (words .entry)) ⌝ }
+    ensures within { λ r. ⌜ r ≤ n ⌝ }
+{
+    let mut p = 0;
+    let mut to = 14 - offset;
+    while p < n {
+        if text.len() < to {
+            return p;
+        }
+        fill_whole(words, text, offset, head, n, p);
+        p += 1;
+        to += 14 - offset;
+    }
+    p
+}
+
+// The same of a packet in which the text ends, or has ended: zeros past it.
+fn fill_last(words: &mut [u32], text: &[u8], offset: usize, head: u32, n: usize, p: usize)
+    requires { ⌜ (offset ≤ 1) × (p < 64) × (p * 4 + 4 ≤ length (now words)) ⌝ }
+    ensures { λ _. ⌜ now (words .exit) ≡ setFour (wordIn (now (text .entry)) (formatted head) (14 - offset) n p) (p * 4) (now (words .entry)) ⌝ }
+{
+    let k = p * 4;
+    let from = p * (14 - offset) + (2 - offset);
+    words[k] = first_word(text, offset, head, n, p);
+    words[k + 1] = four_bytes(text, from);
+    words[k + 2] = four_bytes(text, from + 4);
+    words[k + 3] = four_bytes(text, from + 8);
+}
+
+// Packets from the first on, of n, up to the one in which the text ends: how many; none where the text starts past octet 3.
+fn fill_quick(words: &mut [u32], text: &[u8], offset: usize, head: u32, n: usize) -> usize
+    requires { ⌜ (offset < 14) × (n ≤ 64) × (n * 4 ≤ length (now words)) ⌝ }
+    ensures { λ r. ⌜ now (words .exit) ≡ upTo (r * 4) (wordNew (now (text .entry)) (formatted head) (14 - offset) n) (now (words .entry)) ⌝ }
+    ensures within { λ r. ⌜ r ≤ n ⌝ }
+{
+    if 1 < offset {
+        return 0;
+    }
+    let p = fill_wholes(words, text, offset, head, n);
+    if p < n {
+        fill_last(words, text, offset, head, n, p);
+        return p + 1;
+    }
+    p
+}
+
 // The first m of n packets.
 fn fill_packets(words: &mut [u32], text: &[u8], offset: usize, head: u32, n: usize, m: usize)
     requires { ⌜ (offset < 14) × (n ≤ 64) × (m ≤ n) × (m * 4 ≤ length (now words)) ⌝ }
@@ -112,6 +176,17 @@ fn fill_packets(words: &mut [u32], text: &[u8], offset: usize, head: u32, n: usi
         fill_packet(words, text, offset, head, n, p);
         p += 1;
     }
+}
+
+// All n packets: quickly, and from the first again where that does not reach the last.
+fn fill_all(words: &mut [u32], text: &[u8], offset: usize, head: u32, n: usize)
+    requires { ⌜ (offset < 14) × (n ≤ 64) × (n * 4 ≤ length (now words)) ⌝ }
+    ensures { λ _. ⌜ now (words .exit) ≡ upTo (n * 4) (wordNew (now (text .entry)) (formatted head) (14 - offset) n) (now (words .entry)) ⌝ }
+{
+    if n <= fill_quick(words, text, offset, head, n) {
+        return;
+    }
+    fill_packets(words, text, offset, head, n, n);
 }
 
 // The text in some packets, from octet 2 + offset of each on, and zeros in every whole packet after them.
@@ -130,6 +205,6 @@ pub fn fill_text(words: &mut [u32], text: &[u8], offset: usize, head: u32, packe
         fill_packets(words, text, offset, head, n, whole);
         return;
     }
-    fill_packets(words, text, offset, head, n, n);
+    fill_all(words, text, offset, head, n);
     clear_from(words, n * 4);
 }

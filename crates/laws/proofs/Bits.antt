@@ -122,10 +122,6 @@ same-above w v b at span h e =
     ap (λ (t : ℕ). t % 2 ^ span) (g w ∙ ap (λ (t : ℕ). t / 2 ^ (at - b)) e ∙ sym (g v))
 
 -- ---- octets of a word
--- the two high bits of an octet, found in the word
-pub two-high : (x : ℕ) → x % 256 / 64 ≡ x / 64 % 4
-two-high x = omega arith
-
 -- the highest octet is all that is left of a word
 pub first-octet : (w : ℕ) → w < 2 ^ 32 → w / 0x1000000 % 256 ≡ w / 0x1000000
 first-octet w h = mod-eq-of-lt (let l : w / 0x1000000 < 256 = omega arith in l)

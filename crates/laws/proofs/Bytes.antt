@@ -1,4 +1,4 @@
--- What holds of every number below n: a test that antt computes at each, and what it tells of one; and a number that is none of them. By induction on n.
+-- What holds of every number below n: a test that antt computes at each, and what it tells of one; tests that all hold; and a number that is none of the first. By induction on n.
 use Prim.Native.Nat.{ℕ, zero, suc, _<_, _≤_}
 use mathlib.Core.Path.{_≡_, refl, sym, subst}
 use mathlib.Core.Bool.{Bool, true, false, _&&_}
@@ -28,6 +28,19 @@ and-l false b e = e
 pub and-r : (a b : Bool) → a && b ≡ true → b ≡ true
 and-r true b e = e
 and-r false b e = true-false (sym e)
+
+-- tests that all hold
+pub three-hold : (a b c : Bool) → a && (b && c) ≡ true → (a ≡ true) × (b ≡ true) × (c ≡ true)
+three-hold a b c e = let r = and-r a (b && c) e in (and-l a (b && c) e, and-l b c r, and-r b c r)
+
+pub four-hold : (a b c d : Bool) → a && (b && (c && d)) ≡ true → (a ≡ true) × (b ≡ true) × (c ≡ true) × (d ≡ true)
+four-hold a b c d e = let r = three-hold b c d (and-r a (b && (c && d)) e) in (and-l a (b && (c && d)) e, r .0, r .1, r .2)
+
+pub five-hold : (a b c d f : Bool) → a && (b && (c && (d && f))) ≡ true → (a ≡ true) × (b ≡ true) × (c ≡ true) × (d ≡ true) × (f ≡ true)
+five-hold a b c d f e = let r = four-hold b c d f (and-r a (b && (c && (d && f))) e) in (and-l a (b && (c && (d && f))) e, r .0, r .1, r .2, r .3)
+
+pub six-hold : (a b c d f g : Bool) → a && (b && (c && (d && (f && g)))) ≡ true → (a ≡ true) × (b ≡ true) × (c ≡ true) × (d ≡ true) × (f ≡ true) × (g ≡ true)
+six-hold a b c d f g e = let r = five-hold b c d f g (and-r a (b && (c && (d && (f && g)))) e) in (and-l a (b && (c && (d && (f && g)))) e, r .0, r .1, r .2, r .3, r .4)
 
 pub at : (f : ℕ → Bool) (n : ℕ) → T (eachBelow f n) → (k : ℕ) → k < n → T (f k)
 at f zero t k h = absurd (not-suc-le-zero h)

@@ -72,6 +72,14 @@ upTo-rest (suc i) f [] k h = refl
 upTo-rest (suc i) f (w ∷ ws) zero h = absurd (omega arith)
 upTo-rest (suc i) f (w ∷ ws) (suc k) h = upTo-rest i (λ j. f (suc j)) ws k (omega arith)
 
+-- filled again, and further
+pub upTo-again : (k m : ℕ) (f : ℕ → ℕ) (ws : List ℕ) → k ≤ m → upTo m f (upTo k f ws) ≡ upTo m f ws
+unfolding upTo
+upTo-again zero m f ws h = refl
+upTo-again (suc k) zero f ws h = absurd (omega arith)
+upTo-again (suc k) (suc m) f [] h = refl
+upTo-again (suc k) (suc m) f (w ∷ ws) h = ap (λ (l : List ℕ). f zero ∷ l) (upTo-again k m (λ i. f (suc i)) ws (omega arith))
+
 -- below i it is as f says
 pub upTo-below : (i : ℕ) (f : ℕ → ℕ) (ws : List ℕ) (k : ℕ) → k < i → k < length ws → getD (upTo i f ws) k 0 ≡ f k
 unfolding upTo

@@ -1,4 +1,4 @@
 pub mod Bodies
 pub mod Repeats
 pub mod Passes
-pub mod PlainRead
+pub mod HeadedRead

@@ -1,7 +1,7 @@
--- One pass over a message that is all plain: its turns, and that what it finds is what the rules give. Closed by the laws of a field, and packet by packet.
+-- One pass over the heads of a message: its turns, and that what it finds is what the rules give. Closed by the laws of a field, and packet by packet.
 use Prim.Native.Nat.{ℕ, zero, suc, _+_, _-_, _*_, _≤_, _<_}
 use mathlib.Core.Path.{_≡_, refl, sym, ap, _∙_}
-use mathlib.Core.Bool.{true, false}
+use mathlib.Core.Bool.{Bool, true, false}
 use mathlib.Core.List.{List}
 use native.Mathlib.Omega.{arith}
 use native.Mathlib.Decide.{decLt}
@@ -9,59 +9,62 @@ use lib.ListN.{length, getD, take, List·getD-eq-default}
 use lib.Seq.{getD-take, length-take-le}
 use lib.Dec.{leb, ltb, eqb}
 use Rattle.laws.specs.Pick.{pick, differ}
-use borrow.Author.Tests.{leb-false, lt-leb, lt-ltb, ne-eqb, eqb-true}
+use borrow.Author.Tests.{leb-false, lt-leb, lt-ltb, le-ltb, ne-eqb, eqb-true}
 use Rattle.laws.proofs.Pick.{true-false, split, here, past, passed, eq-differ, ne-differ, differ-false}
+use Rattle.utf8.specs.Utf8.{firstBad}
 use Rattle.text.specs.Octets.{due}
-use Rattle.fast_text.specs.Fast.{plainWord, plainPacket}
+use Rattle.text.specs.Bytes.{textOf}
+use Rattle.fast_text.specs.Fast.{isGood}
+use Rattle.kinds.specs.declared.kind.Kind.{Kind}
+use Rattle.kinds.specs.Layout.{mostOf}
 use Rattle.standard.specs.Heads.{typeOf, formatOf, streamType, headAt, packetsOf}
-use Rattle.reading.specs.OnePass.{headBits, likeFirst, endsAt, plainFrom, plainPackets}
+use Rattle.reading.specs.Bodies.{repeated}
+use Rattle.reading.specs.OnePass.{headBits, likeFirst, endsAt, headedFrom, headedPackets, seenText, headsRight}
 
 -- ---- the turns of the loop
 module _ (ws : List ℕ) (offset p : ℕ) (more : p < 64) where
   left : 64 - p ≡ suc (64 - (p + 1))
   left = omega arith
 
-  pub turn-goes : likeFirst ws offset p ≡ true → eqb (formatOf (headAt ws p)) (due (p + 2) p) ≡ true → plainFrom (64 - p) ws offset p ≡ plainFrom (64 - (p + 1)) ws offset (p + 1)
-  unfolding plainFrom
+  pub turn-goes : likeFirst ws offset p ≡ true → eqb (formatOf (headAt ws p)) (due (p + 2) p) ≡ true → headedFrom (64 - p) ws offset p ≡ headedFrom (64 - (p + 1)) ws offset (p + 1)
+  unfolding headedFrom
   turn-goes l f = rw (left, l, f)
 
-  pub turn-ends : likeFirst ws offset p ≡ true → eqb (formatOf (headAt ws p)) (due (p + 2) p) ≡ false → plainFrom (64 - p) ws offset p ≡ endsAt (formatOf (headAt ws p)) p
-  unfolding plainFrom
+  pub turn-ends : likeFirst ws offset p ≡ true → eqb (formatOf (headAt ws p)) (due (p + 2) p) ≡ false → headedFrom (64 - p) ws offset p ≡ endsAt (formatOf (headAt ws p)) p
+  unfolding headedFrom
   turn-ends l f = rw (left, l, f)
 
-  pub turn-none : likeFirst ws offset p ≡ false → plainFrom (64 - p) ws offset p ≡ 0
-  unfolding plainFrom
+  pub turn-none : likeFirst ws offset p ≡ false → headedFrom (64 - p) ws offset p ≡ 0
+  unfolding headedFrom
   turn-none l = rw (left, l)
 
-pub turn-over : (ws : List ℕ) (offset p : ℕ) → 64 ≤ p → plainFrom (64 - p) ws offset p ≡ 0
-unfolding plainFrom
+pub turn-over : (ws : List ℕ) (offset p : ℕ) → 64 ≤ p → headedFrom (64 - p) ws offset p ≡ 0
+unfolding headedFrom
 turn-over ws offset p h = let z : 64 - p ≡ 0 = omega arith in rw z
 
 module _ (ws : List ℕ) (offset : ℕ) where
-  pub no-words : length ws ≡ 0 → 0 ≡ plainPackets ws offset
-  unfolding plainPackets
+  pub no-words : length ws ≡ 0 → 0 ≡ headedPackets ws offset
+  unfolding headedPackets
   no-words e = let z : getD ws 0 0 ≡ 0 = List·getD-eq-default ws 0 (omega arith) in rw z
 
-  pub other-type : (typeOf (headAt ws 0) ≡ streamType → ⊥) → 0 ≡ plainPackets ws offset
-  unfolding plainPackets
+  pub other-type : (typeOf (headAt ws 0) ≡ streamType → ⊥) → 0 ≡ headedPackets ws offset
+  unfolding headedPackets
   other-type h = here _ (ne-differ _ _ h) refl
 
-  pub same-type : (n : ℕ) → typeOf (headAt ws 0) ≡ streamType → n ≡ plainFrom 64 ws offset 0 → n ≡ plainPackets ws offset
-  unfolding plainPackets
+  pub same-type : (n : ℕ) → typeOf (headAt ws 0) ≡ streamType → n ≡ headedFrom 64 ws offset 0 → n ≡ headedPackets ws offset
+  unfolding headedPackets
   same-type n h e = past _ (eq-differ _ _ h) e
 
 -- ---- what the pass saw of a packet
 pub record Like (ws : List ℕ) (offset p : ℕ) : Type 0 where
   pub there : p < packetsOf ws
   pub head : headBits (headAt ws p) offset ≡ headBits (headAt ws 0) offset
-  pub plain : plainPacket ws offset p ≡ true
 
 like : (ws : List ℕ) (offset p : ℕ) → likeFirst ws offset p ≡ true → Like ws offset p
 unfolding likeFirst
 like ws offset p e =
-    let a = passed (leb (packetsOf ws) p) false (pick (differ (headBits (headAt ws p) offset) (headBits (headAt ws 0) offset)) false (plainPacket ws offset p)) true (λ q. true-false (sym q)) e in
-    let b = passed (differ (headBits (headAt ws p) offset) (headBits (headAt ws 0) offset)) false (plainPacket ws offset p) true (λ q. true-false (sym q)) (a .1) in
-    record { there = leb-false _ _ (a .0); head = differ-false _ _ (b .0); plain = b .1 }
+    let a = passed (leb (packetsOf ws) p) false (eqb (headBits (headAt ws p) offset) (headBits (headAt ws 0) offset)) true (λ q. true-false (sym q)) e in
+    record { there = leb-false _ _ (a .0); head = eqb-true _ _ (a .1) }
 
 pub like-there : (ws : List ℕ) (offset p : ℕ) → likeFirst ws offset p ≡ true → p < packetsOf ws
 like-there ws offset p e = like ws offset p e .there
@@ -93,15 +96,15 @@ module _ (ws : List ℕ) (offset n p : ℕ) (l : Like ws offset p) (f : formatOf
       go i (yes h) a b = rest i h b
       go i (no h) a b = let e : i ≡ p = omega arith in rw e (l, f)
 
-saw : (ws : List ℕ) (offset left p n : ℕ) → plainFrom left ws offset p ≡ n → 0 < n → From ws offset n p × (n ≤ p + left)
-unfolding plainFrom endsAt
+saw : (ws : List ℕ) (offset left p n : ℕ) → headedFrom left ws offset p ≡ n → 0 < n → From ws offset n p × (n ≤ p + left)
+unfolding headedFrom endsAt
 saw ws offset zero p n e h = absurd (omega arith)
 saw ws offset (suc left) p n e h = split (likeFirst ws offset p) (some (λ q. saw ws offset left (p + 1) n q h)) none
   where
     f : ℕ
     f = formatOf (headAt ws p)
 
-    goes : (plainFrom left ws offset (p + 1) ≡ n → From ws offset n (p + 1) × (n ≤ p + 1 + left)) → likeFirst ws offset p ≡ true → eqb f (due (p + 2) p) ≡ true → From ws offset n p × (n ≤ p + suc left)
+    goes : (headedFrom left ws offset (p + 1) ≡ n → From ws offset n (p + 1) × (n ≤ p + 1 + left)) → likeFirst ws offset p ≡ true → eqb f (due (p + 2) p) ≡ true → From ws offset n p × (n ≤ p + suc left)
     goes next l g =
         let r = next (rw (l, g) at e) in
         let a = r .0 .some in
@@ -112,57 +115,78 @@ saw ws offset (suc left) p n e h = split (likeFirst ws offset p) (some (λ q. sa
         (λ t. let q : p + 1 ≡ n = rw (l, g, t) at e in (from-more ws offset n p (like ws offset p l) (eqb-true _ _ t ∙ ap (λ (k : ℕ). due k p) q) (omega arith) (λ i x y. absurd (omega arith)), omega arith))
         (λ t. let q : 0 ≡ n = rw (l, g, t) at e in absurd (omega arith))
 
-    some : (plainFrom left ws offset (p + 1) ≡ n → From ws offset n (p + 1) × (n ≤ p + 1 + left)) → likeFirst ws offset p ≡ true → From ws offset n p × (n ≤ p + suc left)
+    some : (headedFrom left ws offset (p + 1) ≡ n → From ws offset n (p + 1) × (n ≤ p + 1 + left)) → likeFirst ws offset p ≡ true → From ws offset n p × (n ≤ p + suc left)
     some next l = split (eqb f (due (p + 2) p)) (goes next l) (ends l)
 
     none : likeFirst ws offset p ≡ false → From ws offset n p × (n ≤ p + suc left)
     none l = let q : 0 ≡ n = rw l at e in absurd (omega arith)
 
 -- a message of n packets at the start of the words, as the pass saw it
-pub record Plain (ws : List ℕ) (offset n : ℕ) : Type 0 where
+pub record Headed (ws : List ℕ) (offset n : ℕ) : Type 0 where
   pub some : 0 < n
   pub most : n ≤ 64
   pub type : typeOf (headAt ws 0) ≡ streamType
   pub each : (p : ℕ) → p < n → Like ws offset p
   pub format : (p : ℕ) → p < n → formatOf (headAt ws p) ≡ due n p
 
-pub plain-seen : (ws : List ℕ) (offset n : ℕ) → plainPackets ws offset ≡ n → 0 < n → Plain ws offset n
-unfolding plainPackets
-plain-seen ws offset n e h = split (differ (typeOf (headAt ws 0)) streamType)
+pub headed-seen : (ws : List ℕ) (offset n : ℕ) → headedPackets ws offset ≡ n → 0 < n → Headed ws offset n
+unfolding headedPackets
+headed-seen ws offset n e h = split (differ (typeOf (headAt ws 0)) streamType)
     (λ t. let q : 0 ≡ n = rw t at e in absurd (omega arith))
     (λ t. let s = saw ws offset 64 0 n (rw t at e) h in record { some = h; most = omega (arith, s .1); type = differ-false _ _ t; each = λ p l. s .0 .each p (omega arith) l; format = λ p l. s .0 .format p (omega arith) l })
 
 -- it is seen by its own words alone
-module _ (ws : List ℕ) (offset n : ℕ) (s : Plain ws offset n) where
-  long : n * 4 ≤ length ws
-  long = let h = s .some in let l = s .each (n - 1) (omega arith) .there in omega (arith, l)
+module _ (ws : List ℕ) (offset n : ℕ) (s : Headed ws offset n) where
+  pub headed-room : n * 4 ≤ length ws
+  headed-room = let h = s .some in let l = s .each (n - 1) (omega arith) .there in omega (arith, l)
 
   front : (i : ℕ) → i < n * 4 → getD (take (n * 4) ws) i 0 ≡ getD ws i 0
   front i h = getD-take (n * 4) ws i 0 h
 
   count : packetsOf (take (n * 4) ws) ≡ n
-  count = let e = length-take-le (n * 4) ws long in omega (arith, e)
+  count = let e = length-take-le (n * 4) ws headed-room in omega (arith, e)
 
   like-front : (p : ℕ) → p < n → Like (take (n * 4) ws) offset p
-  unfolding plainPacket plainWord
-  like-front p h =
-      let l = s .each p h in
-      let a : leb (packetsOf ws) p ≡ false = lt-leb (packetsOf ws) p (l .there) in
-      let b : leb (packetsOf (take (n * 4) ws)) p ≡ false = lt-leb (packetsOf (take (n * 4) ws)) p (rw count h) in
-      record {
-        there = rw count h;
-        head = rw (front (p * 4) (omega arith), front 0 (omega arith)) (l .head);
-        plain = rw (b, front (p * 4) (omega arith), front (p * 4 + 1) (omega arith), front (p * 4 + 2) (omega arith), front (p * 4 + 3) (omega arith)) (rw a at (l .plain));
-      }
+  like-front p h = record { there = rw count h; head = rw (front (p * 4) (omega arith), front 0 (omega arith)) (s .each p h .head) }
 
-  pub plain-front : (n * 4 ≤ length ws) × Plain (take (n * 4) ws) offset n
-  plain-front = (
-    long,
-    record {
-      some = s .some;
-      most = s .most;
-      type = let h = s .some in rw (front 0 (omega arith)) (s .type);
-      each = like-front;
-      format = λ p h. rw (front (p * 4) (omega arith)) (s .format p h);
-    },
-  )
+  pub headed-front : Headed (take (n * 4) ws) offset n
+  headed-front = record {
+    some = s .some;
+    most = s .most;
+    type = let h = s .some in rw (front 0 (omega arith)) (s .type);
+    each = like-front;
+    format = λ p h. rw (front (p * 4) (omega arith)) (s .format p h);
+  }
+
+-- its packets are all there, and few
+pub headed-within : (ws : List ℕ) (offset n : ℕ) → headedPackets ws offset ≡ n → (n * 4 ≤ length ws) × (n ≤ 64)
+headed-within ws offset zero e = (omega arith, omega arith)
+headed-within ws offset (suc n) e = let s = headed-seen ws offset (suc n) e (omega arith) in (headed-room ws offset (suc n) s, s .most)
+
+-- ---- the heads by the packets that a kind may have
+module _ (k : Kind) (ws : List ℕ) (n : ℕ) where
+  pub too-many : mostOf k < n → false ≡ headsRight k ws n
+  unfolding headsRight
+  too-many h = here _ (lt-ltb (mostOf k) n h) refl
+
+  pub not-many : (b : Bool) (m : ℕ) → n ≤ mostOf k → repeated k ≡ b → m ≡ headedPackets ws (pick b 1 0) → eqb m n ≡ headsRight k ws n
+  unfolding headsRight
+  not-many b m h r e = past _ (le-ltb (mostOf k) n h) (rw (r, e))
+
+-- ---- their text
+module _ (ws : List ℕ) (offset n : ℕ) (e : headedPackets ws offset ≡ n) where
+  pub headed-words : n * 4 ≡ length (take (n * 4) ws)
+  headed-words = sym (length-take-le (n * 4) ws (headed-within ws offset n e .0))
+
+  verdict : (b : Bool) → isGood (firstBad (textOf (take (n * 4) ws) (14 - offset) (packetsOf (take (n * 4) ws)))) ≡ b → pick b n 0 ≡ seenText ws offset
+  unfolding seenText
+  verdict b g =
+      let w = headed-words in
+      let q : packetsOf (take (n * 4) ws) ≡ n = omega arith in
+      rw (e, rw q at g)
+
+  pub seen-good : isGood (firstBad (textOf (take (n * 4) ws) (14 - offset) (packetsOf (take (n * 4) ws)))) ≡ true → n ≡ seenText ws offset
+  seen-good g = verdict true g
+
+  pub seen-bad : isGood (firstBad (textOf (take (n * 4) ws) (14 - offset) (packetsOf (take (n * 4) ws)))) ≡ false → 0 ≡ seenText ws offset
+  seen-bad g = verdict false g

@@ -1,15 +1,20 @@
--- A message whose text is all plain, as one pass over its packets finds it: a quick way to the answer that the rules give.
+-- The heads of a message, as one pass over its packets finds them: a quick way to the answer that the rules give.
 use Prim.Native.Nat.{ℕ, zero, suc, _+_, _-_, _*_, _/_, _^_}
 use mathlib.Core.Bool.{Bool, false}
 use mathlib.Core.List.{List}
-use lib.Dec.{leb, eqb}
+use lib.ListN.{take}
+use lib.Dec.{leb, ltb, eqb}
 use Rattle.laws.specs.Pick.{pick, differ}
 use Rattle.laws.specs.Bits.{putField}
+use Rattle.utf8.specs.Utf8.{firstBad}
 use Rattle.text.specs.Octets.{due}
-use Rattle.fast_text.specs.Fast.{plainPacket}
+use Rattle.text.specs.Bytes.{textOf}
+use Rattle.fast_text.specs.Fast.{isGood}
 use Rattle.kinds.specs.declared.kind.Kind.{Kind}
 use Rattle.kinds.specs.declared.kind.Kind.the-variants as K
+use Rattle.kinds.specs.Layout.{mostOf}
 use Rattle.standard.specs.Heads.{typeOf, formatOf, streamType, headAt, packetsOf}
+use Rattle.reading.specs.Bodies.{repeated}
 
 -- the low bits of a packet's first word that may be text
 unfoldable pub textBits : ℕ → ℕ
@@ -19,35 +24,44 @@ textBits offset = 16 - offset * 8
 unfoldable pub headBits : ℕ → ℕ → ℕ
 headBits w offset = putField w 26 2 0 / 2 ^ textBits offset
 
--- packet p is there, its head is like the first but for its format, and its text is plain
+-- packet p is there, and its head is like the first but for its format
 unfoldable pub likeFirst : List ℕ → ℕ → ℕ → Bool
-likeFirst ws offset p =
-    pick (leb (packetsOf ws) p) false
-    (pick (differ (headBits (headAt ws p) offset) (headBits (headAt ws 0) offset)) false
-    (plainPacket ws offset p))
+likeFirst ws offset p = pick (leb (packetsOf ws) p) false (eqb (headBits (headAt ws p) offset) (headBits (headAt ws 0) offset))
 
 -- the packets of a message whose packet p has a format, where it is the last one's
 unfoldable pub endsAt : ℕ → ℕ → ℕ
 endsAt format p = pick (eqb format (due (p + 1) p)) (p + 1) 0
 
 -- from packet p on, of which at most `left` may come: one with the format of a packet before another goes on
-unfoldable pub plainFrom : ℕ → List ℕ → ℕ → ℕ → ℕ
-plainFrom zero ws offset p = 0
-plainFrom (suc left) ws offset p =
+unfoldable pub headedFrom : ℕ → List ℕ → ℕ → ℕ → ℕ
+headedFrom zero ws offset p = 0
+headedFrom (suc left) ws offset p =
     pick (likeFirst ws offset p)
-    (pick (eqb (formatOf (headAt ws p)) (due (p + 2) p)) (plainFrom left ws offset (p + 1)) (endsAt (formatOf (headAt ws p)) p))
+    (pick (eqb (formatOf (headAt ws p)) (due (p + 2) p)) (headedFrom left ws offset (p + 1)) (endsAt (formatOf (headAt ws p)) p))
     0
 
--- the packets of the message at the start of the words, and 0 where it is none of this sort
-unfoldable pub plainPackets : List ℕ → ℕ → ℕ
-plainPackets ws offset = pick (differ (typeOf (headAt ws 0)) streamType) 0 (plainFrom 64 ws offset 0)
+-- the packets of the message at the start of the words, as its heads say; 0 where they are not right
+unfoldable pub headedPackets : List ℕ → ℕ → ℕ
+headedPackets ws offset = pick (differ (typeOf (headAt ws 0)) streamType) 0 (headedFrom 64 ws offset 0)
 
--- the packets of a message of this kind at the start of the words, where it is one of text and all of that is plain; else 0
-abbrev pub plainText : Kind → List ℕ → ℕ
-plainText K.EndpointDiscovery ws = 0
-plainText K.EndpointInfo ws = 0
-plainText K.DeviceIdentity ws = 0
-plainText K.EndpointName ws = plainPackets ws 0
-plainText K.ProductInstanceId ws = plainPackets ws 0
-plainText K.FunctionBlockInfo ws = 0
-plainText K.FunctionBlockName ws = plainPackets ws 1
+-- the first n packets have text that is UTF-8
+abbrev pub goodText : List ℕ → ℕ → ℕ → Bool
+goodText ws offset n = isGood (firstBad (textOf (take (n * 4) ws) (14 - offset) n))
+
+-- the packets of the message at the start of the words, where its text is UTF-8 too; else 0
+unfoldable pub seenText : List ℕ → ℕ → ℕ
+seenText ws offset = pick (goodText ws offset (headedPackets ws offset)) (headedPackets ws offset) 0
+
+-- the same of a kind: none but the three with text has any
+abbrev pub textPackets : Kind → List ℕ → ℕ
+textPackets K.EndpointDiscovery ws = 0
+textPackets K.EndpointInfo ws = 0
+textPackets K.DeviceIdentity ws = 0
+textPackets K.EndpointName ws = seenText ws 0
+textPackets K.ProductInstanceId ws = seenText ws 0
+textPackets K.FunctionBlockInfo ws = 0
+textPackets K.FunctionBlockName ws = seenText ws 1
+
+-- the heads of a message of a kind and n packets are right: text starts an octet later where each packet has a field
+unfoldable pub headsRight : Kind → List ℕ → ℕ → Bool
+headsRight k ws n = pick (ltb (mostOf k) n) false (eqb (headedPackets ws (pick (repeated k) 1 0)) n)

@@ -4,8 +4,9 @@ ghost use Prim.Native.Nat.{_≤_};
 ghost use lib.ListN.{length};
 ghost use Rattle.kinds.specs.Layout.{mostOf};
 ghost use Rattle.standard.specs.Heads.{packetsOf};
-ghost use Rattle.standard.specs.Reading.{messageAt, readBody, readKind, readOf};
-ghost use Rattle.reading.specs.Bodies.{textRead, repeated, fieldsRead, rulesRead};
+ghost use Rattle.standard.specs.Reading.{readBody, readKind, readOf};
+ghost use Rattle.reading.specs.Bodies.{repeated, fieldsRead, rulesRead};
+ghost use Rattle.reading.specs.OnePass.{headsRight};
 use crate::device_identity;
 use crate::endpoint_discovery;
 use crate::endpoint_info;
@@ -14,17 +15,16 @@ use crate::function_block_info;
 use crate::function_block_name;
 use crate::heads::kind_of;
 use crate::heads::status_of;
-use crate::one_pass::plain_text;
+use crate::one_pass::headed_packets;
 use crate::product_instance_id;
 use crate::rules::Rule;
 use crate::rules::first_broken;
 use counts::PacketNumber;
+use fast_text::good_text;
 use kinds::kind::Kind;
 use kinds::kind::Known;
 use kinds::refusal::Refusal;
 use records::answers::Read;
-use records::message::Message;
-use utf8::Utf8;
 
 // A fixed kind is one packet, text at most 64.
 pub fn most_packets(kind: Kind) -> usize
@@ -41,17 +41,7 @@ pub fn most_packets(kind: Kind) -> usize
     }
 }
 
-// Refusal 11, and else the message.
-fn read_text(words: &[u32], offset: usize, message: Message) -> Read
-    ensures { λ r. ⌜ r ≡ textRead (now (words .entry)) offset message ⌝ }
-{
-    match fast_text::check_text(words, offset) {
-        Utf8::Good => Read::Message(message),
-        Utf8::BadAt(_) => Read::Refused(Refusal::NotUtf8),
-    }
-}
-
-// Refusals 9, 10 and 11, and else the message.
+// Refusals 9, 10 and 11, and else the message. The words go on as a slice taken anew, in registers.
 fn read_body(kind: Kind, words: &[u32]) -> Read
     requires { ⌜ 4 ≤ length (now words) ⌝ }
     ensures { λ r. ⌜ r ≡ readBody kind (now (words .entry)) ⌝ }
@@ -60,10 +50,25 @@ fn read_body(kind: Kind, words: &[u32]) -> Read
         Kind::EndpointDiscovery => Read::Message(endpoint_discovery::message(words)),
         Kind::EndpointInfo => Read::Message(endpoint_info::message(words)),
         Kind::DeviceIdentity => Read::Message(device_identity::message(words)),
-        Kind::EndpointName => read_text(words, 0, endpoint_name::message(words)),
-        Kind::ProductInstanceId => read_text(words, 0, product_instance_id::message(words)),
+        Kind::EndpointName => {
+            if good_text(&words[0..], 0) {
+                return Read::Message(endpoint_name::message(words));
+            }
+            Read::Refused(Refusal::NotUtf8)
+        }
+        Kind::ProductInstanceId => {
+            if good_text(&words[0..], 0) {
+                return Read::Message(product_instance_id::message(words));
+            }
+            Read::Refused(Refusal::NotUtf8)
+        }
         Kind::FunctionBlockInfo => function_block_info::read(words),
-        Kind::FunctionBlockName => read_text(words, 1, function_block_name::message(words)),
+        Kind::FunctionBlockName => {
+            if good_text(&words[0..], 1) {
+                return Read::Message(function_block_name::message(words));
+            }
+            Read::Refused(Refusal::NotUtf8)
+        }
     }
 }
 
@@ -117,20 +122,17 @@ fn read_kind(kind: Kind, words: &[u32]) -> Read
     read_fields(kind, words)
 }
 
-// The record of a message of a kind, whatever its text.
-fn message_of(kind: Kind, words: &[u32]) -> Message
-    requires { ⌜ 4 ≤ length (now words) ⌝ }
-    ensures { λ r. ⌜ r ≡ messageAt kind (now (words .entry)) ⌝ }
+// Whether none of refusals 4 to 8 comes to a message of a kind and n packets, as its heads say in one pass.
+fn heads_right(kind: Kind, words: &[u32], n: usize) -> bool
+    ensures { λ r. ⌜ r ≡ headsRight kind (now (words .entry)) n ⌝ }
 {
-    match kind {
-        Kind::EndpointDiscovery => endpoint_discovery::message(words),
-        Kind::EndpointInfo => endpoint_info::message(words),
-        Kind::DeviceIdentity => device_identity::message(words),
-        Kind::EndpointName => endpoint_name::message(words),
-        Kind::ProductInstanceId => product_instance_id::message(words),
-        Kind::FunctionBlockInfo => function_block_info::message(words),
-        Kind::FunctionBlockName => function_block_name::message(words),
+    if most_packets(kind) < n {
+        return false;
     }
+    if repeats_field(kind) {
+        return headed_packets(words, 1).0 == n;
+    }
+    headed_packets(words, 0).0 == n
 }
 
 // Refusals 4 to 11, one rule after the other.
@@ -148,7 +150,7 @@ fn read_rules(words: &[u32]) -> Read
     }
 }
 
-// READING ONE MESSAGE: one whose text is all plain is seen in one pass, and no rule need be gone by
+// READING ONE MESSAGE: where its heads are right no rule of theirs need be gone by
 pub fn read(words: &[u32]) -> Read
     ensures { λ r. ⌜ r ≡ readOf (now (words .entry)) ⌝ }
 {
@@ -162,10 +164,12 @@ pub fn read(words: &[u32]) -> Read
     if n > 64 {
         return Read::Refused(Refusal::TooManyPackets);
     }
+    let to = n * 4;
+    let packets = &words[..to];
     if let Known::Is(kind) = kind_of(status_of(words[0])) {
-        if plain_text(kind, words).0 == n {
-            return Read::Message(message_of(kind, words));
+        if heads_right(kind, packets, n) {
+            return read_body(kind, packets);
         }
     }
-    read_rules(words)
+    read_rules(packets)
 }

@@ -1,12 +1,12 @@
-// A message whose text is all plain, seen in one pass: each head is like the first but for its format, and each packet's text is ASCII or zeros.
+// The heads of a message, seen in one pass: each is like the first but for its format, and the formats run from Start to End.
 ghost use mathlib.Core.Path.{_≡_};
 ghost use Prim.Native.Nat.{_<_};
 ghost use Rattle.counts.specs.Counts.{packet};
-ghost use Rattle.reading.specs.OnePass.{textBits, headBits, likeFirst, endsAt, plainPackets, plainText};
+ghost use Rattle.reading.specs.OnePass.{textBits, headBits, likeFirst, endsAt, headedPackets, seenText, textPackets};
 use crate::heads::format_of;
 use crate::heads::type_of;
 use counts::PacketNumber;
-use fast_text::plain::plain_packet;
+use fast_text::good_text;
 use kinds::kind::Kind;
 use text::packets::due_format;
 
@@ -29,17 +29,14 @@ fn head_bits(word: u32, offset: usize) -> u32
     bit_ops::set_crumb(word, 2, 0) >> text_bits(offset)
 }
 
-// Whether packet p is there, its head is like the first but for its format, and its text is plain.
+// Whether packet p is there, and its head is like the first but for its format.
 fn like_first(words: &[u32], offset: usize, p: usize) -> bool
     ensures { λ r. ⌜ r ≡ likeFirst (now (words .entry)) offset p ⌝ }
 {
     if words.len() / 4 <= p {
         return false;
     }
-    if head_bits(words[p * 4], offset) != head_bits(words[0], offset) {
-        return false;
-    }
-    plain_packet(words, offset, p)
+    head_bits(words[p * 4], offset) == head_bits(words[0], offset)
 }
 
 // The packets of a message whose packet p has this format, where it is the last one's; else 0.
@@ -53,9 +50,9 @@ fn ends_at(format: u8, p: usize) -> usize
     0
 }
 
-// The packets of the message at the start of the words, where all of its text is plain; 0 where it takes a longer look.
-pub fn plain_packets(words: &[u32], offset: usize) -> PacketNumber
-    ensures { λ r. ⌜ r ≡ packet (plainPackets (now (words .entry)) offset) ⌝ }
+// The packets of the message at the start of the words, as its heads say; 0 where they are not right.
+pub fn headed_packets(words: &[u32], offset: usize) -> PacketNumber
+    ensures { λ r. ⌜ r ≡ packet (headedPackets (now (words .entry)) offset) ⌝ }
 {
     if words.len() == 0 {
         return PacketNumber(0);
@@ -78,14 +75,26 @@ pub fn plain_packets(words: &[u32], offset: usize) -> PacketNumber
     PacketNumber(0)
 }
 
+// The same where its text is UTF-8; else 0.
+fn seen_text(words: &[u32], offset: usize) -> PacketNumber
+    ensures { λ r. ⌜ r ≡ packet (seenText (now (words .entry)) offset) ⌝ }
+{
+    let packets = headed_packets(words, offset);
+    let n = packets.0;
+    if good_text(&words[..n * 4], offset) {
+        return packets;
+    }
+    PacketNumber(0)
+}
+
 // The same of a kind: none but the three with text has any.
-pub fn plain_text(kind: Kind, words: &[u32]) -> PacketNumber
-    ensures { λ r. ⌜ r ≡ packet (plainText kind (now (words .entry))) ⌝ }
+pub fn text_packets(kind: Kind, words: &[u32]) -> PacketNumber
+    ensures { λ r. ⌜ r ≡ packet (textPackets kind (now (words .entry))) ⌝ }
 {
     match kind {
-        Kind::EndpointName => plain_packets(words, 0),
-        Kind::ProductInstanceId => plain_packets(words, 0),
-        Kind::FunctionBlockName => plain_packets(words, 1),
+        Kind::EndpointName => seen_text(words, 0),
+        Kind::ProductInstanceId => seen_text(words, 0),
+        Kind::FunctionBlockName => seen_text(words, 1),
         Kind::EndpointDiscovery => PacketNumber(0),
         Kind::EndpointInfo => PacketNumber(0),
         Kind::DeviceIdentity => PacketNumber(0),

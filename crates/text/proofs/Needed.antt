@@ -1,12 +1,13 @@
 -- Packets needed: they hold the text, no fewer do, and how the code counts them. Closed by division with remainder.
 use Prim.Native.Nat.{ℕ, zero, suc, _+_, _-_, _*_, _/_, _<_, _≤_}
-use mathlib.Core.Path.{_≡_}
+use mathlib.Core.Path.{_≡_, ap}
 use mathlib.Core.Bool.{Bool, true, false}
 use native.Mathlib.Omega.{arith}
-use native.Mathlib.Nat.{div-add-mod', mod-lt, div-lt-iff-lt-mul, div-zero, div-le-self, add-div-right}
+use native.Mathlib.Nat.{div-add-mod', mod-lt, div-lt-iff-lt-mul, div-zero, div-le-self, add-div-right, div-eq-of-lt}
 use lib.Dec.{ltb, leb, eqb}
-use borrow.Author.Tests.{eq-eqb, ne-eqb}
+use borrow.Author.Tests.{ne-eqb, eqb-false}
 use Rattle.laws.specs.Pick.{pick}
+use Rattle.laws.proofs.Pick.{split}
 use Rattle.counts.specs.Counts.{packet}
 use Rattle.text.specs.Octets.{needed, due}
 
@@ -42,9 +43,16 @@ needed-some cap (suc m) h = go (needed cap (suc m)) (needed-holds cap (suc m) h)
 
 -- ---- as the code counts them
 module _ (cap bytes : ℕ) where
-  pub needed-none : bytes ≡ 0 → packet 1 ≡ packet (needed cap bytes)
+  -- one packet holds what is no more than its capacity
+  pub needed-few : bytes ≤ cap → packet 1 ≡ packet (needed cap bytes)
   unfolding needed
-  needed-none e = rw (eq-eqb bytes 0 e)
+  needed-few h = ap packet (split (eqb bytes 0) (λ t. rw t) (λ f. rw f (some (eqb-false bytes 0 f))))
+    where
+      some : (bytes ≡ 0 → ⊥) → 1 ≡ (bytes + (cap - 1)) / cap
+      some n =
+          let e : bytes + (cap - 1) ≡ bytes - 1 + cap = omega arith in
+          let few : bytes - 1 < cap = omega arith in
+          rw (e, add-div-right (bytes - 1) {k = cap} (omega arith), div-eq-of-lt few)
 
   pub needed-without : (bytes ≡ 0 → ⊥) → cap ≡ 0 → packet 0 ≡ packet (needed cap bytes)
   unfolding needed

@@ -3,6 +3,7 @@ ghost use mathlib.Core.Path.{_≡_};
 ghost use Prim.Native.Nat.{_+_, _<_, _≤_};
 ghost use lib.ListN.{length, getD};
 ghost use Rattle.laws.specs.Bits.{wordOf};
+ghost use Rattle.text.specs.Octets.{octetOf};
 ghost use Rattle.text.specs.Four.{joinedAt};
 
 fn wide(b: u8) -> u32
@@ -12,19 +13,29 @@ fn wide(b: u8) -> u32
     b as u32
 }
 
-// The four bytes from byte i on.
-fn packed(bytes: &[u8], i: usize) -> u32
+// The four bytes from byte i on, the first of them lowest: in this order they are compiled to one load.
+fn loaded(bytes: &[u8], i: usize) -> u32
     requires { ⌜ i + 4 ≤ length (now bytes) ⌝ }
-    ensures { λ r. ⌜ r ≡ wordOf (getD (now (bytes .entry)) i 0) (getD (now (bytes .entry)) (i + 1) 0) (getD (now (bytes .entry)) (i + 2) 0) (getD (now (bytes .entry)) (i + 3) 0) ⌝ }
+    ensures { λ r. ⌜ r ≡ wordOf (getD (now (bytes .entry)) (i + 3) 0) (getD (now (bytes .entry)) (i + 2) 0) (getD (now (bytes .entry)) (i + 1) 0) (getD (now (bytes .entry)) i 0) ⌝ }
 {
     let a = wide(bytes[i]);
     let b = wide(bytes[i + 1]);
     let c = wide(bytes[i + 2]);
     let d = wide(bytes[i + 3]);
-    d + c * 0x100 + b * 0x10000 + a * 0x1000000
+    a + b * 0x100 + c * 0x10000 + d * 0x1000000
 }
 
-// The same, and 0 where they are not all there.
+// The octets of a word in the other order: compiled to one instruction.
+fn swapped(w: u32) -> u32
+    ensures { λ r. ⌜ r ≡ wordOf (octetOf w 3) (octetOf w 2) (octetOf w 1) (octetOf w 0) ⌝ }
+{
+    w / 0x1000000
+        + w / 0x10000 % 0x100 * 0x100
+        + w / 0x100 % 0x100 * 0x10000
+        + w % 0x100 * 0x1000000
+}
+
+// The four bytes from byte i on, and 0 where they are not all there.
 pub fn joined(bytes: &[u8], i: usize) -> u32
     ensures { λ r. ⌜ r ≡ joinedAt (now (bytes .entry)) i ⌝ }
 {
@@ -34,5 +45,5 @@ pub fn joined(bytes: &[u8], i: usize) -> u32
     if bytes.len() - 4 < i {
         return 0;
     }
-    packed(bytes, i)
+    swapped(loaded(bytes, i))
 }

@@ -4,11 +4,11 @@ ghost use Rattle.counts.specs.Counts.{packet};
 ghost use Rattle.text.specs.Octets.{needed, due};
 use counts::PacketNumber;
 
-// Packets needed for so many bytes: 1 for empty text, else bytes divided by capacity, rounded up.
+// Packets needed for so many bytes: 1 for empty text, else bytes divided by capacity, rounded up. What fits one packet is not divided.
 pub fn packets_needed(bytes: usize, capacity: usize) -> PacketNumber
     ensures { λ r. ⌜ r ≡ packet (needed capacity bytes) ⌝ }
 {
-    if bytes == 0 {
+    if bytes <= capacity {
         return PacketNumber(1);
     }
     if capacity == 0 {

@@ -11,7 +11,7 @@ use Rattle.kinds.specs.Fields.{Field, joined, partOf, same, decided}
 use Rattle.kinds.specs.Layout.{layout, held, valuesIn}
 use Rattle.standard.specs.Words.{putWord, headOf}
 use Rattle.filling.specs.Filling.{formatted}
-use Rattle.text_settings.specs.Texts.{blockHead}
+use Rattle.text_settings.specs.Texts.{upperOf, blockHead}
 
 module _ (v : Field → List ℕ) (format : ℕ) where
   pub name-head : headOf (layout K.EndpointName) v format ≡ formatted 0xF003_0000 format
@@ -26,6 +26,10 @@ module _ (v : Field → List ℕ) (format : ℕ) where
 pub block-heads : (ws : List ℕ) (format : ℕ) → headOf (layout K.FunctionBlockName) (valuesIn (layout K.FunctionBlockName .fields) ws) format ≡ formatted (blockHead ws) format
 unfolding layout putWord putAll put get valuesIn held map those same decided joined partOf blockHead
 block-heads ws format = omega arith
+
+pub block-upper : (ws : List ℕ) → upperOf (blockHead ws) ≡ 0xF012
+unfolding blockHead
+block-upper ws = omega arith
 
 -- ---- as the code finds it
 pub no-number : (ws : List ℕ) → length ws ≡ 0 → 0xF012_0000 ≡ blockHead ws

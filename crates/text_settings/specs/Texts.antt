@@ -1,13 +1,18 @@
 -- Text set on words: what the target refuses, then 11, 3 and 14; else the text is written into the packets that it needs. And a number set in the head of each packet.
-use Prim.Native.Nat.{ℕ, _+_, _-_, _*_, _^_}
+use Prim.Native.Nat.{ℕ, _+_, _-_, _*_, _/_, _^_, _<_}
+use mathlib.Core.Path.{_≡_}
+use mathlib.Core.Bool.{Bool, false}
 use mathlib.Core.List.{List}
 use lib.ListN.{length, getD}
 use lib.Dec.{ltb}
-use Rattle.laws.specs.Pick.{pick}
+use Rattle.laws.specs.Pick.{pick, differ}
 use Rattle.laws.specs.Bits.{fieldOf}
 use Rattle.counts.specs.Counts.{packet}
 use Rattle.utf8.specs.Utf8.{firstBad}
 use Rattle.text.specs.Octets.{needed}
+use Rattle.fast_text.specs.Fast.{plainPacket}
+use Rattle.kinds.specs.declared.kind.Kind.{Kind}
+use Rattle.kinds.specs.Layout.{layout, capacityOf}
 use Rattle.kinds.specs.declared.refusal.Refusal.the-variants.{TooManyPackets, NotUtf8, NoRoom}
 use Rattle.records.specs.declared.answers.Answer.the-variants as A
 use Rattle.standard.specs.Heads.{headWord, packetsOf}
@@ -19,6 +24,20 @@ use Rattle.settings.specs.Target.{targetOf, settled}
 use Rattle.settings.specs.Fixed.{fitted}
 use Rattle.text_settings.specs.declared.texts.Plan.{Plan}
 use Rattle.text_settings.specs.declared.texts.Plan.the-variants as P
+
+-- the upper half of a first word: type, format and status
+abbrev pub upperOf : ℕ → ℕ
+upperOf w = w / 0x10000
+
+-- a head of a lone packet of a kind with text: type 15, format 0 and its status
+pub record LoneHead (k : Kind) (head : ℕ) : Type 0 where
+  pub upper : upperOf head ≡ 0xF000 + layout k .status
+  pub text : 0 < capacityOf k
+
+-- the first packet has the upper half of a head, and all of its text is plain
+unfoldable pub loneOf : List ℕ → ℕ → Bool
+loneOf ws head =
+    pick (ltb (length ws) 4) false (pick (differ (upperOf (getD ws 0 0)) (upperOf head)) false (plainPacket ws 0 0))
 
 -- refusals 3 and 14 by the packets needed and the whole packets of the buffer
 unfoldable pub roomOf : ℕ → ℕ → Plan

@@ -6,13 +6,11 @@ use crate::texts::set_text;
 use kinds::kind::Kind;
 use records::answers::Answer;
 
-const STATUS: u32 = 0x03;
-
 const HEAD: u32 = 0xF003_0000;
 
 pub fn set_name(words: &mut [u32], name: &[u8]) -> Answer
     ensures answer { λ r. ⌜ r ≡ setOn (Setting.text Text.endpoint-name (now (name .entry))) (now (words .entry)) .answer ⌝ }
     ensures buffer { λ r. ⌜ now (words .exit) ≡ setOn (Setting.text Text.endpoint-name (now (name .entry))) (now (words .entry)) .words ⌝ }
 {
-    set_text(words, Kind::EndpointName, STATUS, 0, HEAD, name)
+    set_text(words, Kind::EndpointName, 0, HEAD, name)
 }

@@ -48,5 +48,5 @@ pub fn set_name(words: &mut [u32], name: &[u8]) -> Answer
     ensures buffer { λ r. ⌜ now (words .exit) ≡ setOn (Setting.text Text.function-block-name (now (name .entry))) (now (words .entry)) .words ⌝ }
 {
     let head = block_head(words);
-    set_text(words, Kind::FunctionBlockName, STATUS, 1, head, name)
+    set_text(words, Kind::FunctionBlockName, 1, head, name)
 }

@@ -1,13 +1,29 @@
-// What a setting of a text kind finds at word position 0: seen in one pass where all of the text is plain.
+// What a setting of a text kind finds at word position 0: seen by one packet, or in one pass, where it can be.
 ghost use mathlib.Core.Path.{_≡_};
 ghost use Rattle.kinds.specs.Layout.{layout};
 ghost use Rattle.standard.specs.Walk.{walkOf};
 ghost use Rattle.settings.specs.Target.{targetOf};
+ghost use Rattle.text_settings.specs.Texts.{loneOf, LoneHead};
+use counts::PacketNumber;
+use fast_text::plain::plain_packet;
 use kinds::kind::Kind;
 use reading::heads::status_of;
-use reading::one_pass::plain_text;
+use reading::one_pass::text_packets;
 use settings::target::Target;
 use settings::target::find_target;
+
+// Whether the first packet is a whole message with the upper half of this head, and its text is plain.
+fn lone(words: &[u32], head: u32) -> bool
+    ensures { λ r. ⌜ r ≡ loneOf (now (words .entry)) head ⌝ }
+{
+    if words.len() < 4 {
+        return false;
+    }
+    if words[0] / 0x10000 != head / 0x10000 {
+        return false;
+    }
+    plain_packet(words, 0, 0)
+}
 
 // The packets of a message of this kind, which has this status, or why a setting of it is refused.
 pub(crate) fn find_text_target(words: &[u32], kind: Kind, status: u32) -> Target
@@ -16,11 +32,22 @@ pub(crate) fn find_text_target(words: &[u32], kind: Kind, status: u32) -> Target
 {
     if words.len() != 0 {
         if status_of(words[0]) == status {
-            let packets = plain_text(kind, words);
+            let packets = text_packets(kind, words);
             if packets.0 != 0 {
                 return Target::Packets(packets);
             }
         }
     }
     find_target(words, status)
+}
+
+// The same by the head of its lone packet, at once where that stands there.
+pub(crate) fn find_near_target(words: &[u32], kind: Kind, head: u32) -> Target
+    requires { ⌜ LoneHead kind head ⌝ }
+    ensures { λ r. ⌜ r ≡ targetOf (layout kind .status) (walkOf (now (words .entry)) 0) ⌝ }
+{
+    if lone(words, head) {
+        return Target::Packets(PacketNumber(1));
+    }
+    find_text_target(words, kind, status_of(head))
 }

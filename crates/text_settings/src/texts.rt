@@ -3,8 +3,8 @@ ghost use mathlib.Core.Path.{_≡_};
 ghost use Prim.Native.Nat.{_<_};
 ghost use Rattle.kinds.specs.Layout.{layout};
 ghost use Rattle.text.specs.Octets.{needed};
-ghost use Rattle.text_settings.specs.Texts.{roomOf, planOf, textOn};
-use crate::target::find_text_target;
+ghost use Rattle.text_settings.specs.Texts.{LoneHead, roomOf, planOf, textOn};
+use crate::target::find_near_target;
 use counts::PacketNumber;
 use fast_text::check_utf8;
 use filling::texts::fill_text;
@@ -50,16 +50,15 @@ pub fn plan_text(text: &[u8], capacity: usize, room: PacketNumber) -> Plan
 pub(crate) fn set_text(
     words: &mut [u32],
     kind: Kind,
-    status: u32,
     offset: usize,
     head: u32,
     text: &[u8],
 ) -> Answer
-    requires { ⌜ (status ≡ layout kind .status) × (offset < 14) ⌝ }
-    ensures answer { λ r. ⌜ r ≡ textOn status offset head (now (text .entry)) (now (words .entry)) .answer ⌝ }
-    ensures buffer { λ r. ⌜ now (words .exit) ≡ textOn status offset head (now (text .entry)) (now (words .entry)) .words ⌝ }
+    requires { ⌜ LoneHead kind head × (offset < 14) ⌝ }
+    ensures answer { λ r. ⌜ r ≡ textOn (layout kind .status) offset head (now (text .entry)) (now (words .entry)) .answer ⌝ }
+    ensures buffer { λ r. ⌜ now (words .exit) ≡ textOn (layout kind .status) offset head (now (text .entry)) (now (words .entry)) .words ⌝ }
 {
-    match find_text_target(words, kind, status) {
+    match find_near_target(words, kind, head) {
         Target::Refused(refusal) => Answer::Refused(refusal),
         Target::Packets(_) => {
             let room = PacketNumber(words.len() / 4);

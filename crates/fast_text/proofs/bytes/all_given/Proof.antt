@@ -1,82 +1,26 @@
--- `bytes::all_given` meets its contract. The invariant: the check stands at byte i, and will say what the definition says.
-use Prim.Native.Nat.{_+_, _-_, _≤_}
+-- `bytes::all_given` meets its contract: whole characters leave what is left to say it.
+use mathlib.Core.Path.{_∙_}
 use native.Mathlib.Omega.{arith}
+use Rattle.fast_text.proofs.Stands.{stands-first}
+use Rattle.fast_text.proofs.Given.{past-at, finish}
 use borrow.Author.Needs.{needs}
-use lib.ListN.{length}
-use Rattle.utf8.specs.Utf8.{firstBad}
-use Rattle.fast_text.specs.Fast.{isGood}
-use Rattle.fast_text.proofs.Stands.{stands-first, stands-bad}
-use Rattle.fast_text.proofs.Given.{At, turn, past-at, finish}
 use Rattle.fast_text.proofs.bytes.all_given.Statement.{statement}
 use Rattle.fast_text.proofs.bytes.all_given.Tie as tie
 
-abbrev Inv-loop : tie.InvT-loop
-Inv-loop text s₀ i₀ s i = (i ≤ length text) × At text (isGood (firstBad text)) s i
-
-abbrev μ-loop : tie.MeasureT-loop
-μ-loop text s₀ i₀ s i = length text - i
-
-past-whole-requires : tie.Need-past-whole-requires Inv-loop μ-loop
+past-whole-requires : tie.Need-past-whole-requires
 past-whole-requires c κs = search needs
 
-loop-holds : tie.Need-loop-holds Inv-loop μ-loop
-loop-holds c = (c .past-whole .ensures .within, past-at _ _ _ _ (c .past-whole .ensures) (stands-first _))
+returns : tie.Need-returns
+returns c =
+    let text = c .before .before .before .args .text .now in
+    let p = c .before .past-whole in
+    finish text _ 0 (p .result) (let e = c .if1 .taken in omega arith) (past-at text _ 0 (p .result) (p .ensures) (stands-first text))
 
-shared-slice-read-given : tie.Need-shared-slice-read-given Inv-loop μ-loop
-shared-slice-read-given c = search needs
+by-tables-requires : tie.Need-by-tables-requires
+by-tables-requires c κs = c .before .past-whole .ensures .within
 
-given-requires : tie.Need-given-requires Inv-loop μ-loop
-given-requires c κs = omega (arith, c .before .before .loop .inv .1 .code .below)
-
--- what holds once a byte is passed, on the ways from there
-byte : (c : tie.After-given Inv-loop μ-loop) →
-    let l = c .before .before .before in
-    let text = l .before .before .before .args .text .now in
-    At text (isGood (firstBad text)) (c .given .result) (l .loop .i + 1)
-byte c =
-    let l = c .before .before .before in
-    rw (c .given .ensures .0)
-    (turn _ _ (λ k. c .before .shared-slice-known2 .given k .fits) _ _ (c .before .before .loop-test .taken) (l .loop .inv .1))
-
-returns : tie.Need-returns Inv-loop μ-loop
-returns c = stands-bad _ _ _ (c .if1 .taken) (byte (c .before))
-
-add-i : tie.Need-add-i Inv-loop μ-loop
-add-i c = search needs
-
-past-whole-requires-2 : tie.Need-past-whole-requires-2 Inv-loop μ-loop
-past-whole-requires-2 c κs = search needs
-
-loop-less : tie.Need-loop-less Inv-loop μ-loop
-loop-less c = let o = c .past-whole2 .ensures .onward in let w = c .past-whole2 .ensures .within in omega arith
-
-loop-again : tie.Need-loop-again Inv-loop μ-loop
-loop-again c = (c .past-whole2 .ensures .within, rw (c .before .if2 .taken) (past-at _ _ _ _ (c .past-whole2 .ensures) (rw (c .before .if2 .taken) at (byte (c .before .before .before)))))
-
-loop-less-2 : tie.Need-loop-less-2 Inv-loop μ-loop
-loop-less-2 c = search needs
-
-loop-again-2 : tie.Need-loop-again-2 Inv-loop μ-loop
-loop-again-2 c = (search needs, byte (c .before .before))
-
-returns-2 : tie.Need-returns-2 Inv-loop μ-loop
-returns-2 c = finish _ _ _ _ (c .loop-test .left) (c .before .loop .inv .1)
+returns-2 : tie.Need-returns-2
+returns-2 c = c .by-tables .ensures ∙ c .before .before .past-whole .ensures .same
 
 pub all-given-spec : {M : Type 1} → statement M
-all-given-spec =
-    tie.close
-    (tie.spec
-    Inv-loop
-    μ-loop
-    past-whole-requires
-    loop-holds
-    shared-slice-read-given
-    given-requires
-    returns
-    add-i
-    past-whole-requires-2
-    loop-less
-    loop-again
-    loop-less-2
-    loop-again-2
-    returns-2)
+all-given-spec = tie.close (tie.spec past-whole-requires returns by-tables-requires returns-2)

@@ -4,14 +4,27 @@ use borrow.Author.Needs.{needs}
 use Rattle.fast_text.proofs.bytes.past_whole.Statement.{statement}
 use Rattle.fast_text.proofs.bytes.past_whole.Tie as tie
 
-past-words-requires : tie.Need-past-words-requires
-past-words-requires c κs = search needs
-
 past-plain-requires : tie.Need-past-plain-requires
-past-plain-requires c κs = c .past-words .ensures .within
+past-plain-requires c κs = search needs
+
+past-runs-requires : tie.Need-past-runs-requires
+past-runs-requires c κs = c .past-plain .ensures .within
+
+past-words-requires : tie.Need-past-words-requires
+past-words-requires c κs = c .past-runs .ensures .within
+
+past-last-requires : tie.Need-past-last-requires
+past-last-requires c κs = c .past-words .ensures .within
 
 returns : tie.Need-returns
-returns c = past-more (c .before .past-words .ensures) (c .past-plain .ensures)
+returns c = past-more (c .before .before .before .past-plain .ensures) (past-more (c .before .before .past-runs .ensures) (past-more (c .before .past-words .ensures) (c .past-last .ensures)))
 
 pub past-whole-spec : {M : Type 1} → statement M
-past-whole-spec = tie.close (tie.spec past-words-requires past-plain-requires returns)
+past-whole-spec =
+    tie.close
+    (tie.spec
+    past-plain-requires
+    past-runs-requires
+    past-words-requires
+    past-last-requires
+    returns)

@@ -39,9 +39,7 @@ loop-less : tie.Need-loop-less Inv-loop μ-loop
 loop-less c = let n = c .if2 .left in omega (arith, n)
 
 loop-again : tie.Need-loop-again Inv-loop μ-loop
-loop-again c =
-    let l = c .before .before .before .before in
-    past-more (l .loop .inv) (rw (c .before .whole .ensures, c .before .before .joined .ensures) (past-look _ (λ k. l .before .before .shared-slice-known .given k .fits) _ (let h = c .before .before .before .loop-test .taken in omega arith)))
+loop-again c = past-more (c .before .before .before .before .loop .inv) (rw (c .before .whole .ensures, c .before .before .joined .ensures) (past-look _ (λ k. c .before .before .before .before .before .before .shared-slice-known .given k .fits) _ (let h = c .before .before .before .loop-test .taken in omega arith)))
 
 returns-3 : tie.Need-returns-3 Inv-loop μ-loop
 returns-3 c = c .before .loop .inv

@@ -1,5 +1,5 @@
 -- `bytes::whole` meets its contract: four plain octets, one character of three, or none told.
-use mathlib.Core.Path.{sym, _∙_}
+use Rattle.laws.proofs.Pick.{told}
 use Rattle.fast_text.specs.Fast.{wholeOf}
 use borrow.Author.Needs.{needs}
 use Rattle.fast_text.proofs.bytes.whole.Statement.{statement}
@@ -10,18 +10,18 @@ plain-requires c κs = search needs
 
 returns : tie.Need-returns
 unfolding wholeOf
-returns c = rw (sym (c .before .plain .ensures) ∙ c .if1 .taken)
+returns c = rw (told (c .before .plain .ensures) (c .if1 .taken))
 
-three-requires : tie.Need-three-requires
-three-requires c κs = search needs
+first-three-requires : tie.Need-first-three-requires
+first-three-requires c κs = search needs
 
 returns-2 : tie.Need-returns-2
 unfolding wholeOf
-returns-2 c = rw (sym (c .before .before .before .plain .ensures) ∙ c .before .before .if1 .left, sym (c .before .three .ensures) ∙ c .if2 .taken)
+returns-2 c = rw (told (c .before .before .before .plain .ensures) (c .before .before .if1 .left), told (c .before .first-three .ensures) (c .if2 .taken))
 
 returns-3 : tie.Need-returns-3
 unfolding wholeOf
-returns-3 c = rw (sym (c .before .before .before .plain .ensures) ∙ c .before .before .if1 .left, sym (c .before .three .ensures) ∙ c .if2 .left)
+returns-3 c = rw (told (c .before .before .before .plain .ensures) (c .before .before .if1 .left), told (c .before .first-three .ensures) (c .if2 .left))
 
 pub whole-spec : {M : Type 1} → statement M
-whole-spec = tie.close (tie.spec plain-requires returns three-requires returns-2 returns-3)
+whole-spec = tie.close (tie.spec plain-requires returns first-three-requires returns-2 returns-3)

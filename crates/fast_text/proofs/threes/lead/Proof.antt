@@ -1,16 +1,20 @@
--- `threes::lead` meets its contract: a test for each end of the range, and one for ED.
-use borrow.Author.Tests.{le-leb, lt-leb}
+-- `threes::lead` meets its contract: the two tests.
+use Rattle.laws.proofs.Pick.{told}
+use borrow.Author.Needs.{needs}
 use Rattle.fast_text.proofs.threes.lead.Statement.{statement}
 use Rattle.fast_text.proofs.threes.lead.Tie as tie
 
+high-requires : tie.Need-high-requires
+high-requires c κs = search needs
+
+free-requires : tie.Need-free-requires
+free-requires c κs = search needs
+
 returns : tie.Need-returns
-returns c = rw (lt-leb _ _ (c .if1 .taken))
+returns c = rw (told (c .before .before .high .ensures) (c .before .if1 .taken)) (c .free .ensures)
 
 returns-2 : tie.Need-returns-2
-returns-2 c = rw (le-leb _ _ (c .before .if1 .left), lt-leb _ _ (c .if2 .taken))
-
-returns-3 : tie.Need-returns-3
-returns-3 c = rw (le-leb _ _ (c .before .if1 .left), le-leb _ _ (c .if2 .left))
+returns-2 c = rw (told (c .before .high .ensures) (c .if1 .left)) (c .if1 .left)
 
 pub lead-spec : {M : Type 1} → statement M
-lead-spec = tie.close (tie.spec returns returns-2 returns-3)
+lead-spec = tie.close (tie.spec high-requires free-requires returns returns-2)

@@ -1,7 +1,7 @@
 -- `threes::pair` meets its contract, by what is due.
-use mathlib.Core.Path.{sym, _∙_}
 use native.Mathlib.Omega.{arith}
 use borrow.Author.Tests.{eq-eqb, ne-eqb}
+use Rattle.laws.proofs.Pick.{told}
 use Rattle.fast_text.specs.Fast.{pairOf}
 use borrow.Author.Needs.{needs}
 use Rattle.fast_text.proofs.threes.pair.Statement.{statement}
@@ -27,27 +27,27 @@ tail-requires-4 c κs = search needs
 
 returns : tie.Need-returns
 unfolding pairOf
-returns c = rw (eq-eqb (c .before .before .before .before .args .s) 0 (omega arith), sym (c .before .before .lead .ensures) ∙ c .before .if1 .taken) (c .tail .ensures)
+returns c = rw (eq-eqb (c .before .before .before .before .args .s) 0 (omega arith), told (c .before .before .lead .ensures) (c .before .if1 .taken)) (c .tail .ensures)
 
 returns-2 : tie.Need-returns-2
 unfolding pairOf
-returns-2 c = rw (eq-eqb (c .before .before .before .args .s) 0 (omega arith), sym (c .before .lead .ensures) ∙ c .if1 .left) (c .if1 .left)
+returns-2 c = rw (eq-eqb (c .before .before .before .args .s) 0 (omega arith), told (c .before .lead .ensures) (c .if1 .left)) (c .if1 .left)
 
 returns-3 : tie.Need-returns-3
 unfolding pairOf
-returns-3 c = rw (ne-eqb (c .before .before .before .before .args .s) 0 (λ e. omega arith), eq-eqb (c .before .before .before .before .args .s) 6 (omega arith), sym (c .before .before .tail2 .ensures) ∙ c .before .if2 .taken) (c .lead2 .ensures)
+returns-3 c = rw (ne-eqb (c .before .before .before .before .args .s) 0 (λ e. omega arith), eq-eqb (c .before .before .before .before .args .s) 6 (omega arith), told (c .before .before .tail2 .ensures) (c .before .if2 .taken)) (c .lead2 .ensures)
 
 returns-4 : tie.Need-returns-4
 unfolding pairOf
-returns-4 c = rw (ne-eqb (c .before .before .before .args .s) 0 (λ e. omega arith), eq-eqb (c .before .before .before .args .s) 6 (omega arith), sym (c .before .tail2 .ensures) ∙ c .if2 .left) (c .if2 .left)
+returns-4 c = rw (ne-eqb (c .before .before .before .args .s) 0 (λ e. omega arith), eq-eqb (c .before .before .before .args .s) 6 (omega arith), told (c .before .tail2 .ensures) (c .if2 .left)) (c .if2 .left)
 
 returns-5 : tie.Need-returns-5
 unfolding pairOf
-returns-5 c = rw (ne-eqb (c .before .before .before .before .args .s) 0 (λ e. omega arith), ne-eqb (c .before .before .before .before .args .s) 6 (λ e. omega arith), eq-eqb (c .before .before .before .before .args .s) 12 (omega arith), sym (c .before .before .tail3 .ensures) ∙ c .before .if3 .taken) (c .tail4 .ensures)
+returns-5 c = rw (ne-eqb (c .before .before .before .before .args .s) 0 (λ e. omega arith), ne-eqb (c .before .before .before .before .args .s) 6 (λ e. omega arith), eq-eqb (c .before .before .before .before .args .s) 12 (omega arith), told (c .before .before .tail3 .ensures) (c .before .if3 .taken)) (c .tail4 .ensures)
 
 returns-6 : tie.Need-returns-6
 unfolding pairOf
-returns-6 c = rw (ne-eqb (c .before .before .before .args .s) 0 (λ e. omega arith), ne-eqb (c .before .before .before .args .s) 6 (λ e. omega arith), eq-eqb (c .before .before .before .args .s) 12 (omega arith), sym (c .before .tail3 .ensures) ∙ c .if3 .left) (c .if3 .left)
+returns-6 c = rw (ne-eqb (c .before .before .before .args .s) 0 (λ e. omega arith), ne-eqb (c .before .before .before .args .s) 6 (λ e. omega arith), eq-eqb (c .before .before .before .args .s) 12 (omega arith), told (c .before .tail3 .ensures) (c .if3 .left)) (c .if3 .left)
 
 returns-7 : tie.Need-returns-7
 unfolding pairOf

@@ -1,10 +1,9 @@
 -- `words::all_good` meets its contract. The invariant: the check stands at packet p, and will say what the definition says.
 use Prim.Native.Nat.{_≤_, _+_, _-_, _/_}
-use native.Mathlib.Omega.{arith}
-use borrow.Author.Needs.{needs}
 use lib.ListN.{length}
 use Rattle.fast_text.proofs.Stands.{stands-bad}
 use Rattle.fast_text.proofs.Shown.{At, begin, turn, finish}
+use borrow.Author.Needs.{needs}
 use Rattle.fast_text.proofs.words.all_good.Statement.{statement}
 use Rattle.fast_text.proofs.words.all_good.Tie as tie
 
@@ -29,74 +28,56 @@ mask-requires-4 c κs = search needs
 loop-holds : tie.Need-loop-holds Inv-loop μ-loop
 loop-holds c = (search needs, begin _ _ _)
 
-mul-word : tie.Need-mul-word Inv-loop μ-loop
-mul-word c = search needs
+mul-k : tie.Need-mul-k Inv-loop μ-loop
+mul-k c = search needs
 
-mul-word-2 : tie.Need-mul-word-2 Inv-loop μ-loop
-mul-word-2 c = search needs
+mul-packet : tie.Need-mul-packet Inv-loop μ-loop
+mul-packet c = search needs
 
-shared-slice-read-word : tie.Need-shared-slice-read-word Inv-loop μ-loop
-shared-slice-read-word c = search needs
+shared-slice-read-packet : tie.Need-shared-slice-read-packet Inv-loop μ-loop
+shared-slice-read-packet c = search needs
 
-word-requires : tie.Need-word-requires Inv-loop μ-loop
-word-requires c κs = omega (arith, c .before .before .loop .inv .1 .code .below)
+add-packet : tie.Need-add-packet Inv-loop μ-loop
+add-packet c = search needs
 
-mul-word-3 : tie.Need-mul-word-3 Inv-loop μ-loop
-mul-word-3 c = search needs
+mul-packet-2 : tie.Need-mul-packet-2 Inv-loop μ-loop
+mul-packet-2 c = search needs
 
-add-word : tie.Need-add-word Inv-loop μ-loop
-add-word c = search needs
+shared-slice-read-packet-2 : tie.Need-shared-slice-read-packet-2 Inv-loop μ-loop
+shared-slice-read-packet-2 c = search needs
 
-mul-word-4 : tie.Need-mul-word-4 Inv-loop μ-loop
-mul-word-4 c = search needs
+add-packet-2 : tie.Need-add-packet-2 Inv-loop μ-loop
+add-packet-2 c = search needs
 
-shared-slice-read-word-2 : tie.Need-shared-slice-read-word-2 Inv-loop μ-loop
-shared-slice-read-word-2 c = search needs
+mul-packet-3 : tie.Need-mul-packet-3 Inv-loop μ-loop
+mul-packet-3 c = search needs
 
-word-requires-2 : tie.Need-word-requires-2 Inv-loop μ-loop
-word-requires-2 c κs = search needs
+shared-slice-read-packet-3 : tie.Need-shared-slice-read-packet-3 Inv-loop μ-loop
+shared-slice-read-packet-3 c = search needs
 
-mul-word-5 : tie.Need-mul-word-5 Inv-loop μ-loop
-mul-word-5 c = search needs
+add-packet-3 : tie.Need-add-packet-3 Inv-loop μ-loop
+add-packet-3 c = search needs
 
-add-word-2 : tie.Need-add-word-2 Inv-loop μ-loop
-add-word-2 c = search needs
+mul-packet-4 : tie.Need-mul-packet-4 Inv-loop μ-loop
+mul-packet-4 c = search needs
 
-mul-word-6 : tie.Need-mul-word-6 Inv-loop μ-loop
-mul-word-6 c = search needs
+shared-slice-read-packet-4 : tie.Need-shared-slice-read-packet-4 Inv-loop μ-loop
+shared-slice-read-packet-4 c = search needs
 
-shared-slice-read-word-3 : tie.Need-shared-slice-read-word-3 Inv-loop μ-loop
-shared-slice-read-word-3 c = search needs
-
-word-requires-3 : tie.Need-word-requires-3 Inv-loop μ-loop
-word-requires-3 c κs = search needs
-
-mul-word-7 : tie.Need-mul-word-7 Inv-loop μ-loop
-mul-word-7 c = search needs
-
-add-word-3 : tie.Need-add-word-3 Inv-loop μ-loop
-add-word-3 c = search needs
-
-mul-word-8 : tie.Need-mul-word-8 Inv-loop μ-loop
-mul-word-8 c = search needs
-
-shared-slice-read-word-4 : tie.Need-shared-slice-read-word-4 Inv-loop μ-loop
-shared-slice-read-word-4 c = search needs
-
-word-requires-4 : tie.Need-word-requires-4 Inv-loop μ-loop
-word-requires-4 c κs = search needs
+packet-requires : tie.Need-packet-requires Inv-loop μ-loop
+packet-requires c κs = c .before .before .before .before .before .loop .inv .1 .code
 
 -- what holds once a packet is passed, on both ways from there
-passed : (c : tie.After-word4 Inv-loop μ-loop) →
-    let l = c .before .before .before .before .before .before .before .before .before in
+passed : (c : tie.After-packet Inv-loop μ-loop) →
+    let l = c .before .before .before .before .before .before in
     let start = l .before .before .before .before .before .before in
     let ws = start .args .words .now in
-    At ws (start .args .offset) (c .word4 .result) (l .loop .p + 1) (length ws / 4)
+    At ws (start .args .offset) (c .packet .result) (l .loop .p + 1) (length ws / 4)
 passed c =
-    let l = c .before .before .before .before .before .before .before .before .before in
+    let l = c .before .before .before .before .before .before in
     let start = l .before .before .before .before .before .before in
-    rw (c .word4 .ensures .0, c .before .before .word3 .ensures .0, c .before .before .before .before .word2 .ensures .0, c .before .before .before .before .before .before .word .ensures .0, l .before .mask4 .ensures, l .before .before .mask3 .ensures, l .before .before .before .mask2 .ensures, l .before .before .before .before .mask .ensures)
-    (turn (start .args .words .now) (start .args .offset) (l .loop .s) (l .loop .p) _ (c .before .before .before .before .before .before .before .before .loop-test .taken) (l .loop .inv .1))
+    rw (c .packet .ensures .0, l .before .mask4 .ensures, l .before .before .mask3 .ensures, l .before .before .before .mask2 .ensures, l .before .before .before .before .mask .ensures)
+    (turn (start .args .words .now) (start .args .offset) (l .loop .s) (l .loop .p) _ (c .before .before .before .before .before .loop-test .taken) (l .loop .inv .1))
 
 returns : tie.Need-returns Inv-loop μ-loop
 returns c = stands-bad _ _ _ (c .if1 .taken) (passed (c .before))
@@ -124,25 +105,19 @@ all-good-spec =
     mask-requires-3
     mask-requires-4
     loop-holds
-    mul-word
-    mul-word-2
-    shared-slice-read-word
-    word-requires
-    mul-word-3
-    add-word
-    mul-word-4
-    shared-slice-read-word-2
-    word-requires-2
-    mul-word-5
-    add-word-2
-    mul-word-6
-    shared-slice-read-word-3
-    word-requires-3
-    mul-word-7
-    add-word-3
-    mul-word-8
-    shared-slice-read-word-4
-    word-requires-4
+    mul-k
+    mul-packet
+    shared-slice-read-packet
+    add-packet
+    mul-packet-2
+    shared-slice-read-packet-2
+    add-packet-2
+    mul-packet-3
+    shared-slice-read-packet-3
+    add-packet-3
+    mul-packet-4
+    shared-slice-read-packet-4
+    packet-requires
     returns
     add-p
     loop-less

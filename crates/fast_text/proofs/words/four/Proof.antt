@@ -1,9 +1,19 @@
--- `words::four` meets its contract: two octets, and two.
+-- `words::four` meets its contract: two octets, and two, or two zeros.
+use mathlib.Core.Path.{sym}
 use native.Mathlib.Nat.{div-one}
+use native.Mathlib.Omega.{arith}
 use Rattle.text.specs.Octets.{octetOf}
+use Rattle.fast_text.proofs.Codes.{zeros-stay}
 use borrow.Author.Needs.{needs}
 use Rattle.fast_text.proofs.words.four.Statement.{statement}
 use Rattle.fast_text.proofs.words.four.Tie as tie
+
+half-requires : tie.Need-half-requires
+half-requires c κs = c .pre
+
+returns : tie.Need-returns
+unfolding octetOf
+returns c = let h = c .if1 .taken in (rw (sym (c .before .half .ensures .0)) (zeros-stay _ _ _ (c .before .half .ensures .1) (omega arith) (omega arith)), c .before .half .ensures .1)
 
 cast-two : tie.Need-cast-two
 cast-two c = search needs
@@ -12,22 +22,11 @@ cast-two-2 : tie.Need-cast-two-2
 cast-two-2 c = search needs
 
 two-requires : tie.Need-two-requires
-two-requires c κs = search needs
+two-requires c κs = c .before .half .ensures .1
 
-cast-two-3 : tie.Need-cast-two-3
-cast-two-3 c = search needs
-
-cast-two-4 : tie.Need-cast-two-4
-cast-two-4 c = search needs
-
-two-requires-2 : tie.Need-two-requires-2
-two-requires-2 c κs = search needs
-
-returns : tie.Need-returns
+returns-2 : tie.Need-returns-2
 unfolding octetOf
-returns c = (rw (c .two2 .ensures .0, c .before .two .ensures .0, div-one), search needs)
+returns-2 c = (rw (c .two .ensures .0, c .before .before .half .ensures .0, div-one), c .two .ensures .1)
 
 pub four-spec : {M : Type 1} → statement M
-four-spec =
-    tie.close
-    (tie.spec cast-two cast-two-2 two-requires cast-two-3 cast-two-4 two-requires-2 returns)
+four-spec = tie.close (tie.spec half-requires returns cast-two cast-two-2 two-requires returns-2)

@@ -1,7 +1,9 @@
 -- `words::two` meets its contract: two bytes of such characters are two of three on.
 use mathlib.Core.Path.{sym, _∙_}
 use native.Mathlib.Omega.{arith}
-use Rattle.fast_text.proofs.Codes.{pair-leads}
+use Rattle.laws.proofs.Pick.{told}
+use Rattle.fast_text.proofs.Codes.{code-two, coded}
+use Rattle.fast_text.proofs.Known.{pair-leads}
 use borrow.Author.Needs.{needs}
 use Rattle.fast_text.proofs.words.two.Statement.{statement}
 use Rattle.fast_text.proofs.words.two.Tie as tie
@@ -10,19 +12,19 @@ pair-requires : tie.Need-pair-requires
 pair-requires c κs = search needs
 
 add-result : tie.Need-add-result
-add-result c = search needs
+add-result c = omega (arith, c .before .before .pre .below)
 
 returns : tie.Need-returns
-returns c = (sym (pair-leads _ _ _ (search needs) (search needs) (sym (c .before .pair .ensures) ∙ c .if1 .taken)), omega arith)
+returns c = coded (pair-leads _ _ _ (search needs) (search needs) (told (c .before .pair .ensures) (c .if1 .taken))) (code-two _ _ _ (c .before .before .pre) (search needs) (search needs))
 
 step-requires : tie.Need-step-requires
-step-requires c κs = search needs
+step-requires c κs = omega (arith, c .before .before .pre .below)
 
 step-requires-2 : tie.Need-step-requires-2
 step-requires-2 c κs = search needs
 
 returns-2 : tie.Need-returns-2
-returns-2 c = (c .step2 .ensures .0 ∙ rw (c .before .step .ensures .0), search needs)
+returns-2 c = coded (sym (c .step2 .ensures .0 ∙ rw (c .before .step .ensures .0))) (code-two _ _ _ (c .before .before .before .before .pre) (search needs) (search needs))
 
 pub two-spec : {M : Type 1} → statement M
 two-spec =

@@ -30,8 +30,8 @@ returns-3 : tie.Need-returns-3
 unfolding fillText written
 returns-3 c = past _ (lt-leb _ _ (c .before .before .before .before .before .before .if1 .left)) (past _ (le-ltb _ _ (c .before .before .before .before .before .if2 .left)) (c .before .before .fill-packets .ensures))
 
-fill-packets-requires-2 : tie.Need-fill-packets-requires-2
-fill-packets-requires-2 c κs = search needs
+fill-all-requires : tie.Need-fill-all-requires
+fill-all-requires c κs = search needs
 
 mul-clear-from : tie.Need-mul-clear-from
 mul-clear-from c = search needs
@@ -49,7 +49,7 @@ returns-4 c =
     let n = a .packets .0 in
     let f = wordNew (a .text .now) (formatted (a .head)) (14 - a .offset) n in
     past _ (lt-leb _ _ (c .before .before .before .before .before .before .before .before .before .before .if1 .left)) (past _ (le-ltb _ _ (c .before .before .before .before .before .before .before .before .before .if2 .left))
-    (c .before .before .clear-from .ensures ∙ ap (clearFrom (n * 4)) (c .before .before .before .before .before .before .fill-packets2 .ensures) ∙ clear-rest f (n * 4) (a .words .now) (omega (arith, c .before .before .before .before .before .before .before .before .if3 .left)) (λ k h. sym (word-zero (a .text .now) (formatted (a .head)) (14 - a .offset) n k h))))
+    (c .before .before .clear-from .ensures ∙ ap (clearFrom (n * 4)) (c .before .before .before .before .before .before .fill-all .ensures) ∙ clear-rest f (n * 4) (a .words .now) (omega (arith, c .before .before .before .before .before .before .before .before .if3 .left)) (λ k h. sym (word-zero (a .text .now) (formatted (a .head)) (14 - a .offset) n k h))))
 
 pub fill-text-spec : {M : Type 1} → statement M
 fill-text-spec =
@@ -60,7 +60,7 @@ fill-text-spec =
     fill-packets-requires
     same-length
     returns-3
-    fill-packets-requires-2
+    fill-all-requires
     mul-clear-from
     clear-from-requires
     same-length-2

@@ -1,15 +1,11 @@
--- `message::read` meets its contract: each refusal where the definition has it, and a plain text by what the pass saw.
+-- `message::read` meets its contract: each refusal where the definition has it, and a body by what the pass saw of the heads.
 use Prim.Native.Nat.{ℕ}
 use mathlib.Core.Path.{refl, sym, ap, _∙_}
-use native.Mathlib.Omega.{arith}
 use borrow.Author.Tests.{lt-ltb, le-ltb}
 use Rattle.laws.proofs.Pick.{here, past, ne-differ, eq-differ}
-use Rattle.counts.specs.declared.PacketNumber.{PacketNumber}
 use Rattle.kinds.specs.Layout.{kindOf}
-use Rattle.records.specs.declared.answers.Read.the-variants as R
 use Rattle.standard.specs.Reading.{readOf}
-use Rattle.reading.specs.Bodies.{rulesRead}
-use Rattle.reading.proofs.PlainRead.{text-seen, text-read}
+use Rattle.reading.proofs.HeadedRead.{all-count, all-long, all-headed, all-rules}
 use borrow.Author.Needs.{needs}
 use Rattle.reading.proofs.message.read.Statement.{statement}
 use Rattle.reading.proofs.message.read.Tie as tie
@@ -26,6 +22,12 @@ returns-3 : tie.Need-returns-3
 unfolding readOf
 returns-3 c = past _ (le-ltb _ _ (c .before .before .if1 .left)) (past _ (eq-differ _ 0 (c .before .if2 .left)) (here _ (lt-ltb _ _ (c .if3 .taken)) refl))
 
+mul-to : tie.Need-mul-to
+mul-to c = search needs
+
+slice-aggregate-packets : tie.Need-slice-aggregate-packets
+slice-aggregate-packets c = all-count (c .before .before .before .before .before .args .words .now) (c .before .before .before .if1 .left) (c .before .before .if2 .left)
+
 shared-slice-read-status-of : tie.Need-shared-slice-read-status-of
 shared-slice-read-status-of c = search needs
 
@@ -38,30 +40,33 @@ kind-of-requires c κs = search needs
 enum-known-kind : tie.Need-enum-known-kind
 enum-known-kind c = search needs
 
-plain-text-requires : tie.Need-plain-text-requires
-plain-text-requires c κs = search needs
+heads-right-requires : tie.Need-heads-right-requires
+heads-right-requires c κs = search needs
 
-message-of-requires : tie.Need-message-of-requires
-message-of-requires c κs = search needs
+read-body-requires : tie.Need-read-body-requires
+read-body-requires c κs =
+    let d = c .before .before .before .before .before .before .before .before .before in
+    all-long (d .before .before .before .before .args .words .now) (d .before .before .if1 .left) (d .before .if2 .left)
 
 returns-4 : tie.Need-returns-4
 returns-4 c =
-    let k = c .before .before .before .before .before in
-    let start = k .before .before .before .before .before .before .before .before .before in
-    let n = sym (ap (λ (x : PacketNumber). x .0) (c .before .before .before .plain-text .ensures)) ∙ c .before .if4 .taken in
-    let long = k .before .before .before .before .before .before .before .if1 .left in
+    let k = c .before .before .before .before in
+    let d = k .before .before .before .before .before .before in
     let known = ap (λ (x : ℕ). kindOf x) (sym (k .before .before .before .status-of .ensures)) ∙ sym (k .before .before .kind-of .ensures) ∙ k .kind .given .1 in
-    ap R.Message (c .message-of .ensures) ∙ text-read _ _ (text-seen (k .kind .given .0 .0) (start .args .words .now) _ n (omega (arith, long))) (k .before .before .before .before .before .before .if2 .left) known
+    c .read-body .ensures ∙ all-headed _ (d .before .before .if1 .left) (d .before .if2 .left) _ known (sym (c .before .before .heads-right .ensures) ∙ c .before .if4 .taken)
 
 enum-told : tie.Need-enum-told
 enum-told c = search needs
 
 read-rules-requires : tie.Need-read-rules-requires
-read-rules-requires c κs = search needs
+read-rules-requires c κs =
+    let d = c .before .before .before .before .before in
+    all-long (d .before .before .before .before .args .words .now) (d .before .before .if1 .left) (d .before .if2 .left)
 
 returns-5 : tie.Need-returns-5
-unfolding readOf rulesRead
-returns-5 c = past _ (le-ltb _ _ (c .before .before .before .before .before .before .before .if1 .left)) (past _ (eq-differ _ 0 (c .before .before .before .before .before .before .if2 .left)) (past _ (le-ltb _ _ (c .before .before .before .before .before .if3 .left)) (c .read-rules .ensures)))
+returns-5 c =
+    let d = c .before .before .before .before .before .before in
+    c .read-rules .ensures ∙ all-rules _ (d .before .before .if1 .left) (d .before .if2 .left) (d .if3 .left)
 
 pub read-spec : {M : Type 1} → statement M
 read-spec =
@@ -70,12 +75,14 @@ read-spec =
     returns
     returns-2
     returns-3
+    mul-to
+    slice-aggregate-packets
     shared-slice-read-status-of
     status-of-requires
     kind-of-requires
     enum-known-kind
-    plain-text-requires
-    message-of-requires
+    heads-right-requires
+    read-body-requires
     returns-4
     enum-told
     read-rules-requires

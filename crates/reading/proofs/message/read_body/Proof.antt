@@ -1,5 +1,5 @@
--- `message::read_body` meets its contract, kind by kind.
-use mathlib.Core.Path.{refl, ap, _∙_}
+-- `message::read_body` meets its contract, kind by kind, and by the verdict on a text.
+use mathlib.Core.Path.{refl, sym, ap, _∙_}
 use Rattle.laws.specs.Lists.{map}
 use Rattle.slots.specs.Slots.{get, those}
 use Rattle.bit_ops.specs.Parts.{partIn}
@@ -8,7 +8,7 @@ use Rattle.kinds.specs.Fields.{same, decided, joined, start}
 use Rattle.kinds.specs.Layout.{layout, held, valuesIn}
 use Rattle.records.specs.declared.answers.Read.the-variants as R
 use Rattle.records.specs.Records.{recordOf}
-use Rattle.reading.proofs.Bodies.{plain-body, text-body}
+use Rattle.reading.proofs.Bodies.{all-told, plain-body, good-body, bad-body}
 use borrow.Author.Needs.{needs}
 use Rattle.reading.proofs.message.read_body.Statement.{statement}
 use Rattle.reading.proofs.message.read_body.Tie as tie
@@ -34,20 +34,46 @@ message-requires-3 c κs = search needs
 enum-told-4 : tie.Need-enum-told-4
 enum-told-4 c = search needs
 
+sub-good-text : tie.Need-sub-good-text
+sub-good-text c = search needs
+
+part-good-text-start : tie.Need-part-good-text-start
+part-good-text-start c = search needs
+
+part-good-text-end : tie.Need-part-good-text-end
+part-good-text-end c = search needs
+
+good-text-requires : tie.Need-good-text-requires
+good-text-requires c κs = search needs
+
 message-requires-4 : tie.Need-message-requires-4
 message-requires-4 c κs = search needs
 
-read-text-requires : tie.Need-read-text-requires
-read-text-requires c κs = search needs
+returns : tie.Need-returns
+unfolding recordOf valuesIn layout those map held joined same decided start get partIn
+returns c = rw (c .before .before .before .before .enum-told4 .given .1) (ap R.Message (c .message4 .ensures) ∙ good-body K.EndpointName (c .before .before .before .before .before .before .before .args .words .now) refl refl 0 refl (all-told _ _ (sym (c .before .before .good-text .ensures) ∙ c .before .if1 .taken)))
 
 enum-told-5 : tie.Need-enum-told-5
 enum-told-5 c = search needs
 
+sub-good-text-2 : tie.Need-sub-good-text-2
+sub-good-text-2 c = search needs
+
+part-good-text-start-2 : tie.Need-part-good-text-start-2
+part-good-text-start-2 c = search needs
+
+part-good-text-end-2 : tie.Need-part-good-text-end-2
+part-good-text-end-2 c = search needs
+
+good-text-requires-2 : tie.Need-good-text-requires-2
+good-text-requires-2 c κs = search needs
+
 message-requires-5 : tie.Need-message-requires-5
 message-requires-5 c κs = search needs
 
-read-text-requires-2 : tie.Need-read-text-requires-2
-read-text-requires-2 c κs = search needs
+returns-2 : tie.Need-returns-2
+unfolding recordOf valuesIn layout those map held joined same decided start get partIn
+returns-2 c = rw (c .before .before .before .before .enum-told5 .given .1) (ap R.Message (c .message5 .ensures) ∙ good-body K.ProductInstanceId (c .before .before .before .before .before .before .before .args .words .now) refl refl 0 refl (all-told _ _ (sym (c .before .before .good-text2 .ensures) ∙ c .before .if2 .taken)))
 
 enum-told-6 : tie.Need-enum-told-6
 enum-told-6 c = search needs
@@ -58,38 +84,51 @@ read-requires c κs = search needs
 enum-told-7 : tie.Need-enum-told-7
 enum-told-7 c = search needs
 
+sub-good-text-3 : tie.Need-sub-good-text-3
+sub-good-text-3 c = search needs
+
+part-good-text-start-3 : tie.Need-part-good-text-start-3
+part-good-text-start-3 c = search needs
+
+part-good-text-end-3 : tie.Need-part-good-text-end-3
+part-good-text-end-3 c = search needs
+
+good-text-requires-3 : tie.Need-good-text-requires-3
+good-text-requires-3 c κs = search needs
+
 message-requires-6 : tie.Need-message-requires-6
 message-requires-6 c κs = search needs
 
-read-text-requires-3 : tie.Need-read-text-requires-3
-read-text-requires-3 c κs = search needs
-
-returns : tie.Need-returns
-unfolding recordOf valuesIn layout those map held joined same decided start get partIn
-returns c = rw (c .before .enum-told .given .1) (ap R.Message (c .message .ensures) ∙ plain-body K.EndpointDiscovery (c .before .before .before .before .args .words .now) refl refl refl)
-
-returns-2 : tie.Need-returns-2
-unfolding recordOf valuesIn layout those map held joined same decided start get partIn
-returns-2 c = rw (c .before .enum-told2 .given .1) (ap R.Message (c .message2 .ensures) ∙ plain-body K.EndpointInfo (c .before .before .before .before .args .words .now) refl refl refl)
-
 returns-3 : tie.Need-returns-3
 unfolding recordOf valuesIn layout those map held joined same decided start get partIn
-returns-3 c = rw (c .before .enum-told3 .given .1) (ap R.Message (c .message3 .ensures) ∙ plain-body K.DeviceIdentity (c .before .before .before .before .args .words .now) refl refl refl)
+returns-3 c = rw (c .before .before .before .before .enum-told7 .given .1) (ap R.Message (c .message6 .ensures) ∙ good-body K.FunctionBlockName (c .before .before .before .before .before .before .before .args .words .now) refl refl 1 refl (all-told _ _ (sym (c .before .before .good-text3 .ensures) ∙ c .before .if3 .taken)))
 
 returns-4 : tie.Need-returns-4
 unfolding recordOf valuesIn layout those map held joined same decided start get partIn
-returns-4 c = rw (c .before .before .enum-told4 .given .1) (c .read-text .ensures ∙ rw (c .before .message4 .ensures) (text-body K.EndpointName (c .before .before .before .before .before .args .words .now) refl refl 0 refl))
+returns-4 c = rw (c .before .enum-told .given .1) (ap R.Message (c .message .ensures) ∙ plain-body K.EndpointDiscovery (c .before .before .before .before .args .words .now) refl refl refl)
 
 returns-5 : tie.Need-returns-5
 unfolding recordOf valuesIn layout those map held joined same decided start get partIn
-returns-5 c = rw (c .before .before .enum-told5 .given .1) (c .read-text2 .ensures ∙ rw (c .before .message5 .ensures) (text-body K.ProductInstanceId (c .before .before .before .before .before .args .words .now) refl refl 0 refl))
+returns-5 c = rw (c .before .enum-told2 .given .1) (ap R.Message (c .message2 .ensures) ∙ plain-body K.EndpointInfo (c .before .before .before .before .args .words .now) refl refl refl)
 
 returns-6 : tie.Need-returns-6
-returns-6 c = rw (c .before .enum-told6 .given .1) (c .read .ensures)
+unfolding recordOf valuesIn layout those map held joined same decided start get partIn
+returns-6 c = rw (c .before .enum-told3 .given .1) (ap R.Message (c .message3 .ensures) ∙ plain-body K.DeviceIdentity (c .before .before .before .before .args .words .now) refl refl refl)
 
 returns-7 : tie.Need-returns-7
 unfolding recordOf valuesIn layout those map held joined same decided start get partIn
-returns-7 c = rw (c .before .before .enum-told7 .given .1) (c .read-text3 .ensures ∙ rw (c .before .message6 .ensures) (text-body K.FunctionBlockName (c .before .before .before .before .before .args .words .now) refl refl 1 refl))
+returns-7 c = rw (c .before .before .before .enum-told4 .given .1) (bad-body K.EndpointName (c .before .before .before .before .before .before .args .words .now) refl refl 0 refl (all-told _ _ (sym (c .before .good-text .ensures) ∙ c .if1 .left)))
+
+returns-8 : tie.Need-returns-8
+unfolding recordOf valuesIn layout those map held joined same decided start get partIn
+returns-8 c = rw (c .before .before .before .enum-told5 .given .1) (bad-body K.ProductInstanceId (c .before .before .before .before .before .before .args .words .now) refl refl 0 refl (all-told _ _ (sym (c .before .good-text2 .ensures) ∙ c .if2 .left)))
+
+returns-9 : tie.Need-returns-9
+returns-9 c = rw (c .before .enum-told6 .given .1) (c .read .ensures)
+
+returns-10 : tie.Need-returns-10
+unfolding recordOf valuesIn layout those map held joined same decided start get partIn
+returns-10 c = rw (c .before .before .before .enum-told7 .given .1) (bad-body K.FunctionBlockName (c .before .before .before .before .before .before .args .words .now) refl refl 1 refl (all-told _ _ (sym (c .before .good-text3 .ensures) ∙ c .if3 .left)))
 
 pub read-body-spec : {M : Type 1} → statement M
 read-body-spec =
@@ -102,20 +141,32 @@ read-body-spec =
     enum-told-3
     message-requires-3
     enum-told-4
+    sub-good-text
+    part-good-text-start
+    part-good-text-end
+    good-text-requires
     message-requires-4
-    read-text-requires
+    returns
     enum-told-5
+    sub-good-text-2
+    part-good-text-start-2
+    part-good-text-end-2
+    good-text-requires-2
     message-requires-5
-    read-text-requires-2
+    returns-2
     enum-told-6
     read-requires
     enum-told-7
+    sub-good-text-3
+    part-good-text-start-3
+    part-good-text-end-3
+    good-text-requires-3
     message-requires-6
-    read-text-requires-3
-    returns
-    returns-2
     returns-3
     returns-4
     returns-5
     returns-6
-    returns-7)
+    returns-7
+    returns-8
+    returns-9
+    returns-10)

@@ -1,7 +1,7 @@
--- `one_pass::like_first` meets its contract: a packet that is there, a head that is alike, plain text.
-use mathlib.Core.Path.{refl, sym, _∙_}
+-- `one_pass::like_first` meets its contract: a packet that is there, and a head that is alike.
+use mathlib.Core.Path.{refl}
 use borrow.Author.Tests.{le-leb, lt-leb}
-use Rattle.laws.proofs.Pick.{here, past, eq-differ, ne-differ}
+use Rattle.laws.proofs.Pick.{here, past}
 use Rattle.reading.specs.OnePass.{likeFirst}
 use borrow.Author.Needs.{needs}
 use Rattle.reading.proofs.one_pass.like_first.Statement.{statement}
@@ -31,19 +31,7 @@ head-bits-requires-2 c κs = search needs
 
 returns-2 : tie.Need-returns-2
 unfolding likeFirst
-returns-2 c =
-    past _ (lt-leb _ _ (c .before .before .before .before .before .if1 .left))
-    (here _ (ne-differ _ _ (λ e. c .if2 .taken (c .before .before .before .head-bits .ensures ∙ e ∙ sym (c .before .head-bits2 .ensures)))) refl)
-
-plain-packet-requires : tie.Need-plain-packet-requires
-plain-packet-requires c κs = search needs
-
-returns-3 : tie.Need-returns-3
-unfolding likeFirst
-returns-3 c =
-    past _ (lt-leb _ _ (c .before .before .before .before .before .before .if1 .left))
-    (past _ (eq-differ _ _ (sym (c .before .before .before .before .head-bits .ensures) ∙ c .before .if2 .left ∙ c .before .before .head-bits2 .ensures))
-    (c .plain-packet .ensures))
+returns-2 c = past _ (lt-leb _ _ (c .before .before .before .before .if1 .left)) (rw (c .before .before .head-bits .ensures, c .head-bits2 .ensures))
 
 pub like-first-spec : {M : Type 1} → statement M
 like-first-spec =
@@ -56,6 +44,4 @@ like-first-spec =
     head-bits-requires
     shared-slice-read-head-bits-2
     head-bits-requires-2
-    returns-2
-    plain-packet-requires
-    returns-3)
+    returns-2)

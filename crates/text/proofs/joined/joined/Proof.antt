@@ -1,7 +1,7 @@
--- `joined::joined` meets its contract, by the laws of `Fours`.
+-- `joined::joined` meets its contract, by the laws of `Fours`: the octets of what was loaded, turned round.
 use mathlib.Core.Path.{sym, _∙_}
 use native.Mathlib.Omega.{arith}
-use Rattle.text.proofs.Fours.{joined-in, joined-out}
+use Rattle.text.proofs.Fours.{joined-in, joined-out, turned}
 use borrow.Author.Needs.{needs}
 use Rattle.text.proofs.joined.joined.Statement.{statement}
 use Rattle.text.proofs.joined.joined.Tie as tie
@@ -15,11 +15,19 @@ sub-if2 c = search needs
 returns-2 : tie.Need-returns-2
 returns-2 c = sym (joined-out _ _ (omega arith))
 
-packed-requires : tie.Need-packed-requires
-packed-requires c κs = search needs
+loaded-requires : tie.Need-loaded-requires
+loaded-requires c κs = search needs
+
+swapped-requires : tie.Need-swapped-requires
+swapped-requires c κs = search needs
 
 returns-3 : tie.Need-returns-3
-returns-3 c = c .packed .ensures ∙ sym (joined-in _ _ (omega arith))
+returns-3 c =
+    let start = c .before .before .before .before .before in
+    c .swapped .ensures
+    ∙ rw (c .before .loaded .ensures) (turned (start .args .bytes .now) (start .args .i) (λ k. c .before .before .before .before .shared-slice-known .given k .fits))
+    ∙ sym (joined-in _ _ (omega arith))
 
 pub joined-spec : {M : Type 1} → statement M
-joined-spec = tie.close (tie.spec returns sub-if2 returns-2 packed-requires returns-3)
+joined-spec =
+    tie.close (tie.spec returns sub-if2 returns-2 loaded-requires swapped-requires returns-3)

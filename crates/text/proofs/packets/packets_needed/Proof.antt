@@ -1,15 +1,15 @@
 -- `packets::packets_needed` meets its contract, by the laws of `Needed`.
 use native.Mathlib.Omega.{arith}
-use Rattle.text.proofs.Needed.{needed-none, needed-without, needed-last, packets-fit}
+use Rattle.text.proofs.Needed.{needed-few, needed-without, needed-last, packets-fit}
 use borrow.Author.Needs.{needs}
 use Rattle.text.proofs.packets.packets_needed.Statement.{statement}
 use Rattle.text.proofs.packets.packets_needed.Tie as tie
 
 returns : tie.Need-returns
-returns c = needed-none _ _ (c .if1 .taken)
+returns c = needed-few _ _ (c .if1 .taken)
 
 returns-2 : tie.Need-returns-2
-returns-2 c = needed-without _ _ (c .before .if1 .left) (c .if2 .taken)
+returns-2 c = needed-without _ _ (λ e. omega arith) (c .if2 .taken)
 
 sub-t4 : tie.Need-sub-t4
 sub-t4 c = search needs
@@ -18,10 +18,10 @@ div-t5 : tie.Need-div-t5
 div-t5 c = search needs
 
 add-t6 : tie.Need-add-t6
-add-t6 c = omega (arith, packets-fit (c .before .before .args .capacity) (c .before .before .args .bytes) (c .before .if1 .left))
+add-t6 c = omega (arith, packets-fit (c .before .before .args .capacity) (c .before .before .args .bytes) (λ e. omega arith))
 
 returns-3 : tie.Need-returns-3
-returns-3 c = needed-last _ _ (c .before .if1 .left) (c .if2 .left)
+returns-3 c = needed-last _ _ (λ e. omega arith) (c .if2 .left)
 
 pub packets-needed-spec : {M : Type 1} → statement M
 packets-needed-spec = tie.close (tie.spec returns returns-2 sub-t4 div-t5 add-t6 returns-3)

@@ -12,7 +12,7 @@ use Rattle.text_settings.proofs.endpoint_name.set_name.Tie as tie
 
 set-text-requires : tie.Need-set-text-requires
 unfolding layout
-set-text-requires c κs = (refl, lit≤ tt)
+set-text-requires c κs = (record { upper = refl; text = lit≤ tt }, lit≤ tt)
 
 same-length : tie.Need-same-length
 same-length c = search needs

@@ -1,10 +1,11 @@
 -- `function_block_name::set_name` meets its contract, by the laws of `Rows`, `Heads` and `Left` of standard.
 use mathlib.Core.Path.{refl}
+use native.Mathlib.Omega.{arith}
 use lib.Dec.{lit≤}
 use Rattle.kinds.specs.declared.kind.Kind.the-variants as K
 use Rattle.kinds.specs.Layout.{layout}
 use Rattle.text_settings.proofs.Rows.{textFacts, set-text}
-use Rattle.text_settings.proofs.Heads.{block-heads}
+use Rattle.text_settings.proofs.Heads.{block-heads, block-upper}
 use borrow.Author.Needs.{needs}
 use Rattle.standard.proofs.Left.{said-as}
 use Rattle.text_settings.proofs.function_block_name.set_name.Statement.{statement}
@@ -15,7 +16,9 @@ block-head-requires c κs = search needs
 
 set-text-requires : tie.Need-set-text-requires
 unfolding layout
-set-text-requires c κs = (refl, lit≤ tt)
+set-text-requires c κs =
+    let u = block-upper (c .before .before .before .before .before .args .words .now) in
+    (record { upper = omega (arith, c .before .block-head .ensures, u); text = lit≤ tt }, lit≤ tt)
 
 same-length : tie.Need-same-length
 same-length c = search needs

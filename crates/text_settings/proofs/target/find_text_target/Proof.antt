@@ -3,7 +3,7 @@ use mathlib.Core.Path.{refl, sym, ap, _∙_}
 use native.Mathlib.Omega.{arith}
 use Rattle.counts.specs.declared.PacketNumber.{PacketNumber}
 use Rattle.settings.specs.declared.target.Target.the-variants as T
-use Rattle.text_settings.proofs.Targets.{plain-target}
+use Rattle.text_settings.proofs.Targets.{seen-target}
 use borrow.Author.Needs.{needs}
 use Rattle.text_settings.proofs.target.find_text_target.Statement.{statement}
 use Rattle.text_settings.proofs.target.find_text_target.Tie as tie
@@ -14,17 +14,17 @@ shared-slice-read-status-of c = search needs
 status-of-requires : tie.Need-status-of-requires
 status-of-requires c κs = search needs
 
-plain-text-requires : tie.Need-plain-text-requires
-plain-text-requires c κs = search needs
+text-packets-requires : tie.Need-text-packets-requires
+text-packets-requires c κs = search needs
 
 returns : tie.Need-returns
 returns c =
     let start = c .before .before .before .before .before .before .before .before in
     let own = sym (c .before .before .before .before .status-of .ensures) ∙ c .before .before .before .if2 .taken ∙ start .pre in
-    let n = c .before .before .plain-text .ensures in
+    let n = c .before .before .text-packets .ensures in
     let is = ap (λ (x : PacketNumber). x .0) n in
     let some = c .if3 .taken in
-    rw (start .pre) (ap T.Packets n ∙ plain-target (start .args .kind) (start .args .words .now) _ own refl (omega (arith, is, some)))
+    rw (start .pre) (ap T.Packets n ∙ seen-target (start .args .kind) (start .args .words .now) _ own refl (omega (arith, is, some)))
 
 find-target-requires : tie.Need-find-target-requires
 find-target-requires c κs = search needs
@@ -38,7 +38,7 @@ find-text-target-spec =
     (tie.spec
     shared-slice-read-status-of
     status-of-requires
-    plain-text-requires
+    text-packets-requires
     returns
     find-target-requires
     returns-2)

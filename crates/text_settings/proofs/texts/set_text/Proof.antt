@@ -6,8 +6,8 @@ use Rattle.standard.proofs.Left.{said}
 use Rattle.text_settings.proofs.texts.set_text.Statement.{statement}
 use Rattle.text_settings.proofs.texts.set_text.Tie as tie
 
-find-text-target-requires : tie.Need-find-text-target-requires
-find-text-target-requires c κs = search needs
+find-near-target-requires : tie.Need-find-near-target-requires
+find-near-target-requires c κs = search needs
 
 enum-known-refusal : tie.Need-enum-known-refusal
 enum-known-refusal c = search needs
@@ -34,25 +34,25 @@ same-length : tie.Need-same-length
 same-length c = search needs
 
 returns : tie.Need-returns
-returns c = said (text-refused _ _ _ _ _ (sym (c .before .before .before .find-text-target .ensures) ∙ c .before .refusal .given .1))
+returns c = said (text-refused _ _ _ _ _ (sym (c .before .before .before .find-near-target .ensures) ∙ c .before .refusal .given .1))
 
 same-length-2 : tie.Need-same-length-2
 same-length-2 c = search needs
 
 returns-2 : tie.Need-returns-2
-returns-2 c = said (text-planless _ _ _ _ _ (sym (c .before .before .before .before .before .before .find-text-target .ensures) ∙ c .before .before .before .before .enum-told .given .1) (sym (c .before .before .before .plan-text .ensures) ∙ c .before .refusal2 .given .1))
+returns-2 c = said (text-planless _ _ _ _ _ (sym (c .before .before .before .before .before .before .find-near-target .ensures) ∙ c .before .before .before .before .enum-told .given .1) (sym (c .before .before .before .plan-text .ensures) ∙ c .before .refusal2 .given .1))
 
 same-length-3 : tie.Need-same-length-3
 same-length-3 c = search needs
 
 returns-3 : tie.Need-returns-3
-returns-3 c = rw (c .before .before .fill-text .ensures) (said (text-done _ _ _ _ _ (sym (c .before .before .before .before .before .before .before .before .before .before .find-text-target .ensures) ∙ c .before .before .before .before .before .before .before .before .enum-told .given .1) (sym (c .before .before .before .before .before .before .before .plan-text .ensures) ∙ c .before .before .before .before .before .packets .given .1)))
+returns-3 c = rw (c .before .before .fill-text .ensures) (said (text-done _ _ _ _ _ (sym (c .before .before .before .before .before .before .before .before .before .before .find-near-target .ensures) ∙ c .before .before .before .before .before .before .before .before .enum-told .given .1) (sym (c .before .before .before .before .before .before .before .plan-text .ensures) ∙ c .before .before .before .before .before .packets .given .1)))
 
 pub set-text-spec : {M : Type 1} → statement M
 set-text-spec =
     tie.close
     (tie.spec
-    find-text-target-requires
+    find-near-target-requires
     enum-known-refusal
     enum-told
     sub-plan-text

@@ -1,17 +1,17 @@
--- `one_pass::plain_packets` meets its contract. The invariant: what is to be answered is what the packets from p on give.
+-- `one_pass::headed_packets` meets its contract. The invariant: what is to be answered is what the packets from p on give.
 use Prim.Native.Nat.{_-_}
 use mathlib.Core.Path.{_≡_, refl, sym, ap, _∙_}
 use native.Mathlib.Omega.{arith}
 use borrow.Author.Tests.{eq-eqb, ne-eqb}
 use Rattle.counts.specs.Counts.{packet}
-use Rattle.reading.specs.OnePass.{plainFrom}
+use Rattle.reading.specs.OnePass.{headedFrom}
 use Rattle.reading.proofs.Passes.{turn-goes, turn-ends, turn-none, turn-over, no-words, other-type, same-type, like-there}
 use borrow.Author.Needs.{needs}
-use Rattle.reading.proofs.one_pass.plain_packets.Statement.{statement}
-use Rattle.reading.proofs.one_pass.plain_packets.Tie as tie
+use Rattle.reading.proofs.one_pass.headed_packets.Statement.{statement}
+use Rattle.reading.proofs.one_pass.headed_packets.Tie as tie
 
 abbrev Inv-loop : tie.InvT-loop
-Inv-loop words offset p₀ p = plainFrom 64 words offset 0 ≡ plainFrom (64 - p) words offset p
+Inv-loop words offset p₀ p = headedFrom 64 words offset 0 ≡ headedFrom (64 - p) words offset p
 
 abbrev μ-loop : tie.MeasureT-loop
 μ-loop words offset p₀ p = 64 - p
@@ -88,8 +88,8 @@ returns-5 c =
     let loop = c .before in
     ap packet (same-type _ _ _ (sym (loop .before .before .type-of .ensures) ∙ loop .before .if2 .left) (sym (loop .loop .inv ∙ turn-over _ _ _ (c .loop-test .left))))
 
-pub plain-packets-spec : {M : Type 1} → statement M
-plain-packets-spec =
+pub headed-packets-spec : {M : Type 1} → statement M
+headed-packets-spec =
     tie.close
     (tie.spec
     Inv-loop

@@ -1,0 +1,47 @@
+-- `message::heads_right` meets its contract: as many packets as the kind may have, and as its heads say.
+use mathlib.Core.Path.{sym, ap, _∙_}
+use mathlib.Core.Bool.{true, false}
+use Rattle.counts.specs.declared.PacketNumber.{PacketNumber}
+use Rattle.reading.proofs.Passes.{too-many, not-many}
+use borrow.Author.Needs.{needs}
+use Rattle.reading.proofs.message.heads_right.Statement.{statement}
+use Rattle.reading.proofs.message.heads_right.Tie as tie
+
+most-packets-requires : tie.Need-most-packets-requires
+most-packets-requires c κs = search needs
+
+returns : tie.Need-returns
+returns c = too-many _ _ _ (rw (c .before .most-packets .ensures) at (c .if1 .taken))
+
+repeats-field-requires : tie.Need-repeats-field-requires
+repeats-field-requires c κs = search needs
+
+headed-packets-requires : tie.Need-headed-packets-requires
+headed-packets-requires c κs = search needs
+
+returns-2 : tie.Need-returns-2
+returns-2 c =
+    let d = c .before .before in
+    let most = d .before .before in
+    not-many _ _ _ true _ (rw (most .before .most-packets .ensures) at (most .if1 .left)) (sym (d .before .repeats-field .ensures) ∙ d .if2 .taken) (ap (λ (x : PacketNumber). x .0) (c .before .headed-packets .ensures))
+
+headed-packets-requires-2 : tie.Need-headed-packets-requires-2
+headed-packets-requires-2 c κs = search needs
+
+returns-3 : tie.Need-returns-3
+returns-3 c =
+    let d = c .before .before in
+    let most = d .before .before in
+    not-many _ _ _ false _ (rw (most .before .most-packets .ensures) at (most .if1 .left)) (sym (d .before .repeats-field .ensures) ∙ d .if2 .left) (ap (λ (x : PacketNumber). x .0) (c .before .headed-packets2 .ensures))
+
+pub heads-right-spec : {M : Type 1} → statement M
+heads-right-spec =
+    tie.close
+    (tie.spec
+    most-packets-requires
+    returns
+    repeats-field-requires
+    headed-packets-requires
+    returns-2
+    headed-packets-requires-2
+    returns-3)

@@ -1,0 +1,31 @@
+-- `target::lone` meets its contract: a test for each of its returns.
+use mathlib.Core.Path.{refl}
+use borrow.Author.Tests.{lt-ltb, le-ltb}
+use Rattle.laws.proofs.Pick.{here, past, eq-differ, ne-differ}
+use Rattle.text_settings.specs.Texts.{loneOf}
+use borrow.Author.Needs.{needs}
+use Rattle.text_settings.proofs.target.lone.Statement.{statement}
+use Rattle.text_settings.proofs.target.lone.Tie as tie
+
+returns : tie.Need-returns
+unfolding loneOf
+returns c = here _ (lt-ltb _ _ (c .if1 .taken)) refl
+
+shared-slice-read-if2 : tie.Need-shared-slice-read-if2
+shared-slice-read-if2 c = search needs
+
+returns-2 : tie.Need-returns-2
+unfolding loneOf
+returns-2 c = past _ (le-ltb _ _ (c .before .before .if1 .left)) (here _ (ne-differ _ _ (c .if2 .taken)) refl)
+
+plain-packet-requires : tie.Need-plain-packet-requires
+plain-packet-requires c κs = search needs
+
+returns-3 : tie.Need-returns-3
+unfolding loneOf
+returns-3 c = past _ (le-ltb _ _ (c .before .before .before .if1 .left)) (past _ (eq-differ _ _ (c .before .if2 .left)) (c .plain-packet .ensures))
+
+pub lone-spec : {M : Type 1} → statement M
+lone-spec =
+    tie.close
+    (tie.spec returns shared-slice-read-if2 returns-2 plain-packet-requires returns-3)
