@@ -11,7 +11,7 @@ use borrow.Author.Tests.{lt-ltb, le-ltb}
 use Rattle.laws.specs.Bits.{fieldOf, putField}
 use Rattle.laws.proofs.Pick.{below}
 use Rattle.laws.proofs.Bits as bits
-use Rattle.bit_ops.specs.Parts.{partsOf, placeOf, partIn, putPart, bitOf}
+use Rattle.bit_ops.specs.Parts.{partsOf, lowestBit, partIn, putPart, bitOf}
 
 -- ---- where a part is
 pub in-word : (stride i : ℕ) → i < partsOf stride → stride * (i + 1) ≤ 32
@@ -20,12 +20,12 @@ in-word stride i h =
     omega (arith, mul-div-le 32 stride)
 
 -- a part further from the highest begins a stride lower, or more
-lower : (stride span i k : ℕ) → span ≤ stride → i < k → k < partsOf stride → placeOf stride k + span ≤ placeOf stride i
+lower : (stride span i k : ℕ) → span ≤ stride → i < k → k < partsOf stride → lowestBit stride k + span ≤ lowestBit stride i
 lower stride span i k s h hk =
     let m : stride * (i + 2) ≤ stride * (k + 1) = mul-le-mul-left stride (omega arith) in
     omega (arith, in-word stride k hk)
 
-parts-apart : (stride span i k : ℕ) → span ≤ stride → i < partsOf stride → k < partsOf stride → (i ≡ k → ⊥) → bits.Apart (placeOf stride i) span (placeOf stride k) span
+parts-apart : (stride span i k : ℕ) → span ≤ stride → i < partsOf stride → k < partsOf stride → (i ≡ k → ⊥) → bits.Apart (lowestBit stride i) span (lowestBit stride k) span
 parts-apart stride span i k s hi hk n =
     ⊎-elim (λ (h : i < k). inr (lower stride span i k s h hk))
     (λ (h : k ≤ i). inl (lower stride span k i s (omega arith) hi))
@@ -38,7 +38,7 @@ bit-byte false = refl
 
 -- ---- one law a case
 module _ (stride span w i : ℕ) where
-  part-in : i < partsOf stride → partIn stride span w i ≡ fieldOf w (placeOf stride i) span
+  part-in : i < partsOf stride → partIn stride span w i ≡ fieldOf w (lowestBit stride i) span
   unfolding partIn
   part-in h = rw (lt-ltb _ _ h)
 
@@ -46,7 +46,7 @@ module _ (stride span w i : ℕ) where
   unfolding partIn
   part-out h = rw (le-ltb _ _ h)
 
-  put-in : (v : ℕ) → i < partsOf stride → v < 2 ^ span → putPart stride span w i v ≡ putField w (placeOf stride i) span v
+  put-in : (v : ℕ) → i < partsOf stride → v < 2 ^ span → putPart stride span w i v ≡ putField w (lowestBit stride i) span v
   unfolding putPart
   put-in v h hv = rw (lt-ltb _ _ h, lt-ltb _ _ hv)
 
@@ -61,23 +61,23 @@ module _ (stride span w i : ℕ) where
   -- a part fits its span
   part-lt : partIn stride span w i < 2 ^ span
   part-lt =
-      ⊎-elim (λ (h : i < partsOf stride). rw (part-in h) (mod-lt (w / 2 ^ placeOf stride i) (pow-pos span)))
+      ⊎-elim (λ (h : i < partsOf stride). rw (part-in h) (mod-lt (w / 2 ^ lowestBit stride i) (pow-pos span)))
       (λ (h : partsOf stride ≤ i). rw (part-out h) (pow-pos span))
       (below i (partsOf stride))
 
   -- what is got at the place of a part is the part
-  pub part-at : (at r : ℕ) → i < partsOf stride → at ≡ placeOf stride i → r ≡ fieldOf w at span → (r ≡ partIn stride span w i) × (r < 2 ^ span)
+  pub part-at : (at r : ℕ) → i < partsOf stride → at ≡ lowestBit stride i → r ≡ fieldOf w at span → (r ≡ partIn stride span w i) × (r < 2 ^ span)
   part-at at r h e g =
       let q : r ≡ partIn stride span w i = g ∙ ap (λ (a : ℕ). fieldOf w a span) e ∙ sym (part-in h) in
       (q, rw q part-lt)
 
-  pub put-at : (v at r : ℕ) → i < partsOf stride → v < 2 ^ span → at ≡ placeOf stride i → r ≡ putField w at span v → r ≡ putPart stride span w i v
+  pub put-at : (v at r : ℕ) → i < partsOf stride → v < 2 ^ span → at ≡ lowestBit stride i → r ≡ putField w at span v → r ≡ putPart stride span w i v
   put-at v at r h hv e p = p ∙ ap (λ (a : ℕ). putField w a span v) e ∙ sym (put-in v h hv)
 
 -- ---- what was put, and what was left
 module _ (stride span w i v : ℕ) where
   -- what holds of the word with the field put, and of the word as it was, holds of the word with the part put
-  either : (P : ℕ → Type 0) → (i < partsOf stride → v < 2 ^ span → P (putField w (placeOf stride i) span v)) → P w → P (putPart stride span w i v)
+  either : (P : ℕ → Type 0) → (i < partsOf stride → v < 2 ^ span → P (putField w (lowestBit stride i) span v)) → P w → P (putPart stride span w i v)
   either P f k =
       ⊎-elim
       (λ (h : i < partsOf stride).
@@ -87,11 +87,11 @@ module _ (stride span w i v : ℕ) where
 
   -- what was put is got
   pub part-put : i < partsOf stride → v < 2 ^ span → partIn stride span (putPart stride span w i v) i ≡ v
-  part-put h hv = rw (put-in stride span w i v h hv, part-in stride span _ i h) (bits.get-put w (placeOf stride i) span v hv)
+  part-put h hv = rw (put-in stride span w i v h hv, part-in stride span _ i h) (bits.get-put w (lowestBit stride i) span v hv)
 
   -- a field that shares no bit with the part is kept
-  pub put-apart : (at′ span′ : ℕ) → bits.Apart (placeOf stride i) span at′ span′ → fieldOf (putPart stride span w i v) at′ span′ ≡ fieldOf w at′ span′
-  put-apart at′ span′ a = either (λ (x : ℕ). fieldOf x at′ span′ ≡ fieldOf w at′ span′) (λ h hv. bits.get-other w (placeOf stride i) span v at′ span′ hv a) refl
+  pub put-apart : (at′ span′ : ℕ) → bits.Apart (lowestBit stride i) span at′ span′ → fieldOf (putPart stride span w i v) at′ span′ ≡ fieldOf w at′ span′
+  put-apart at′ span′ a = either (λ (x : ℕ). fieldOf x at′ span′ ≡ fieldOf w at′ span′) (λ h hv. bits.get-other w (lowestBit stride i) span v at′ span′ hv a) refl
 
   -- so is every other part
   pub part-other : (k : ℕ) → span ≤ stride → (i ≡ k → ⊥) → partIn stride span (putPart stride span w i v) k ≡ partIn stride span w k
@@ -99,20 +99,20 @@ module _ (stride span w i v : ℕ) where
       either (λ (x : ℕ). partIn stride span x k ≡ partIn stride span w k)
       (λ hi hv.
       ⊎-elim
-      (λ (hk : k < partsOf stride). part-in stride span _ k hk ∙ bits.get-other w (placeOf stride i) span v _ span hv (parts-apart stride span i k s hi hk n) ∙ sym (part-in stride span w k hk))
+      (λ (hk : k < partsOf stride). part-in stride span _ k hk ∙ bits.get-other w (lowestBit stride i) span v _ span hv (parts-apart stride span i k s hi hk n) ∙ sym (part-in stride span w k hk))
       (λ (hk : partsOf stride ≤ k). part-out stride span _ k hk ∙ sym (part-out stride span w k hk))
       (below k (partsOf stride)))
       refl
 
   -- a word stays one
   pub put-word : span ≤ stride → w < 2 ^ 32 → putPart stride span w i v < 2 ^ 32
-  put-word s hw = either (λ (x : ℕ). x < 2 ^ 32) (λ h hv. bits.put-lt w (placeOf stride i) span v hw (omega (arith, in-word stride i h)) hv) hw
+  put-word s hw = either (λ (x : ℕ). x < 2 ^ 32) (λ h hv. bits.put-lt w (lowestBit stride i) span v hw (omega (arith, in-word stride i h)) hv) hw
 
 -- what is in a part is put: nothing changes
 pub part-back : (stride span w i : ℕ) → putPart stride span w i (partIn stride span w i) ≡ w
 part-back stride span w i =
     ⊎-elim
-    (λ (h : i < partsOf stride). put-in stride span w i _ h (part-lt stride span w i) ∙ bits.put-back w (placeOf stride i) span _ (sym (part-in stride span w i h)))
+    (λ (h : i < partsOf stride). put-in stride span w i _ h (part-lt stride span w i) ∙ bits.put-back w (lowestBit stride i) span _ (sym (part-in stride span w i h)))
     (λ (h : partsOf stride ≤ i). put-out stride span w i _ h)
     (below i (partsOf stride))
 
@@ -120,5 +120,5 @@ part-back stride span w i =
 pub part-over : (stride span w i u v : ℕ) → v < 2 ^ span → putPart stride span (putPart stride span w i u) i v ≡ putPart stride span w i v
 part-over stride span w i u v hv =
     either stride span w i u (λ (x : ℕ). putPart stride span x i v ≡ putPart stride span w i v)
-    (λ h hu. put-in stride span _ i v h hv ∙ bits.put-over w (placeOf stride i) span u v hu ∙ sym (put-in stride span w i v h hv))
+    (λ h hu. put-in stride span _ i v h hv ∙ bits.put-over w (lowestBit stride i) span u v hu ∙ sym (put-in stride span w i v h hv))
     refl

@@ -16,16 +16,16 @@ abbrev pub partsOf : ℕ → ℕ
 partsOf stride = 32 / stride
 
 -- the lowest bit of part i
-abbrev pub placeOf : ℕ → ℕ → ℕ
-placeOf stride i = 32 - stride * (i + 1)
+abbrev pub lowestBit : ℕ → ℕ → ℕ
+lowestBit stride i = 32 - stride * (i + 1)
 
 -- part i of a word, and 0 where there is no such part
 unfoldable pub partIn : ℕ → ℕ → ℕ → ℕ → ℕ
-partIn stride span w i = pick (ltb i (partsOf stride)) (fieldOf w (placeOf stride i) span) 0
+partIn stride span w i = pick (ltb i (partsOf stride)) (fieldOf w (lowestBit stride i) span) 0
 
 -- the word with v as its part i, and as it was where there is no such part or v is too large for it
 unfoldable pub putPart : ℕ → ℕ → ℕ → ℕ → ℕ → ℕ
-putPart stride span w i v = pick (ltb i (partsOf stride)) (pick (ltb v (2 ^ span)) (putField w (placeOf stride i) span v) w) w
+putPart stride span w i v = pick (ltb i (partsOf stride)) (pick (ltb v (2 ^ span)) (putField w (lowestBit stride i) span v) w) w
 
 -- a bool as a part of one bit
 abbrev pub bitOf : Bool → ℕ

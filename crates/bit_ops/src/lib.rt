@@ -5,7 +5,7 @@ ghost use mathlib.Core.Path.{_≡_};
 ghost use Prim.Native.Nat.{_+_, _^_, _<_, _≤_};
 ghost use lib.Dec.{eqb};
 ghost use Rattle.laws.specs.Bits.{fieldOf, putField};
-ghost use Rattle.bit_ops.specs.Parts.{IsPart, partsOf, placeOf, partIn, putPart, bitOf};
+ghost use Rattle.bit_ops.specs.Parts.{IsPart, partsOf, lowestBit, partIn, putPart, bitOf};
 
 // The `span` bits from bit `at` on.
 fn get(w: u32, at: usize, span: usize) -> u32
@@ -26,7 +26,7 @@ fn put(w: u32, at: usize, span: usize, v: u32) -> u32
 // The lowest bit of a part.
 fn place(stride: usize, index: usize) -> usize
     requires { ⌜ index < partsOf stride ⌝ }
-    ensures { λ r. ⌜ r ≡ placeOf stride index ⌝ }
+    ensures { λ r. ⌜ r ≡ lowestBit stride index ⌝ }
 {
     32 - stride * (index + 1)
 }

@@ -13,7 +13,7 @@ use Rattle.utf8.specs.Utf8.{_‥_, tail, after}
 use Rattle.utf8.proofs.Same.{same-ranges, same, same-eq}
 use Rattle.text.specs.Octets.{octetOf}
 use Rattle.text.proofs.Back.{octet-small}
-use Rattle.fast_text.specs.Fast.{Code, rowOf, stepOf, fourOf, givenOf}
+use Rattle.fast_text.specs.Fast.{Code, tableRow, tableStep, fourOf, givenOf}
 use Rattle.fast_text.proofs.Due.{Due, ready, nextDue, isReady}
 
 -- ---- the states: 6 k stands for what is due at k, and 48 for bad text
@@ -58,23 +58,23 @@ readDue o b = pick (eqb b 0) o (nextDue o b)
 
 -- the step from state k leads to a state, and to what is due next
 step-test : ℕ → ℕ → Bool
-step-test b k = (eqb (stepOf (6 * k) b % 6) 0 && ltb (stepOf (6 * k) b) 54) && same (dueAt (stepOf (6 * k) b)) (readDue (dueAt (6 * k)) b)
+step-test b k = (eqb (tableStep (6 * k) b % 6) 0 && ltb (tableStep (6 * k) b) 54) && same (dueAt (tableStep (6 * k) b)) (readDue (dueAt (6 * k)) b)
 
 step-tests : ℕ → Bool
 step-tests b = eachBelow (step-test b) 9
 
 all-steps : T (eachBelow step-tests 256)
-unfolding step-tests step-test stepOf rowOf dueAt dues same same-ranges after
+unfolding step-tests step-test tableStep tableRow dueAt dues same same-ranges after
 all-steps = tt
 
 pub record Next (s b : ℕ) : Type 0 where
-  pub code : Code (stepOf s b)
-  pub due : dueAt (stepOf s b) ≡ readDue (dueAt s) b
+  pub code : Code (tableStep s b)
+  pub due : dueAt (tableStep s b) ≡ readDue (dueAt s) b
 
 next-six : (k b : ℕ) → k < 9 → b < 256 → Next (6 * k) b
 unfolding step-tests step-test
 next-six k b h l =
-    let r = stepOf (6 * k) b in
+    let r = tableStep (6 * k) b in
     let t = at (step-test b) 9 (at step-tests 256 all-steps b l) k h in
     let u = and-left (eqb (r % 6) 0 && ltb r 54) (same (dueAt r) (readDue (dueAt (6 * k)) b)) t in
     record {
@@ -90,26 +90,26 @@ next-law s b c l = by-code (λ m. Next m b) (λ k h. next-six k b h l) s c
 
 -- a zero changes no state
 stay-test : ℕ → Bool
-stay-test k = eqb (stepOf (6 * k) 0) (6 * k)
+stay-test k = eqb (tableStep (6 * k) 0) (6 * k)
 
-stay-six : (k : ℕ) → k < 9 → stepOf (6 * k) 0 ≡ 6 * k
-unfolding stay-test stepOf rowOf
-stay-six k h = eqb→eq (stepOf (6 * k) 0) (6 * k) (at stay-test 9 tt k h)
+stay-six : (k : ℕ) → k < 9 → tableStep (6 * k) 0 ≡ 6 * k
+unfolding stay-test tableStep tableRow
+stay-six k h = eqb→eq (tableStep (6 * k) 0) (6 * k) (at stay-test 9 tt k h)
 
-zero-stays : (s : ℕ) → Code s → stepOf s 0 ≡ s
-zero-stays s c = by-code (λ m. stepOf m 0 ≡ m) stay-six s c
+zero-stays : (s : ℕ) → Code s → tableStep s 0 ≡ s
+zero-stays s c = by-code (λ m. tableStep m 0 ≡ m) stay-six s c
 
-pub zeros-stay : (s a b : ℕ) → Code s → a ≡ 0 → b ≡ 0 → s ≡ stepOf (stepOf s a) b
+pub zeros-stay : (s a b : ℕ) → Code s → a ≡ 0 → b ≡ 0 → s ≡ tableStep (tableStep s a) b
 zeros-stay s a b c p q = sym (rw (p, q, zero-stays s c) (zero-stays s c))
 
 -- steps from a state lead to a state
-pub code-two : (s a b : ℕ) → Code s → a < 256 → b < 256 → Code (stepOf (stepOf s a) b)
-code-two s a b c la lb = next-law (stepOf s a) b (next-law s a c la .code) lb .code
+pub code-two : (s a b : ℕ) → Code s → a < 256 → b < 256 → Code (tableStep (tableStep s a) b)
+code-two s a b c la lb = next-law (tableStep s a) b (next-law s a c la .code) lb .code
 
 pub code-four : (s w : ℕ) → Code s → Code (fourOf s w)
 code-four s w c =
     let half = code-two s (octetOf w 0) (octetOf w 1) c (octet-small w 0) (octet-small w 1) in
-    code-two (stepOf (stepOf s (octetOf w 0)) (octetOf w 1)) (octetOf w 2) (octetOf w 3) half (octet-small w 2) (octet-small w 3)
+    code-two (tableStep (tableStep s (octetOf w 0)) (octetOf w 1)) (octetOf w 2) (octetOf w 3) half (octet-small w 2) (octet-small w 3)
 
 -- what is told at once is the number that the steps lead to
 pub coded : {r x : ℕ} → x ≡ r → Code x → (r ≡ x) × Code r

@@ -9,42 +9,42 @@ use Rattle.laws.proofs.Pick.{true-false, split}
 use Rattle.laws.proofs.Bytes.{eachBelow, at, and-left, and-right, and-l, and-r, three-hold, four-hold, five-hold, six-hold, implied, implied-holds}
 use Rattle.text.specs.Octets.{octetOf}
 use Rattle.text.proofs.Back.{octet-small}
-use Rattle.fast_text.specs.Fast.{rowOf, stepOf, givenOf, highOf, freeOf, leadOf, tailOf, pairOf, threeOf, lastThree, fromNone, fromOne, fromTwo, quadOf, runOf, fourOf, plainOf}
+use Rattle.fast_text.specs.Fast.{tableRow, tableStep, givenOf, highOf, freeOf, leadOf, tailOf, twoThrees, threeOf, lastThree, fromNone, fromOne, fromTwo, quadOf, runOf, fourOf, plainOf}
 
 -- ---- a byte, zeros dropped or not
 
 pub record Leads (s b next : ℕ) : Type 0 where
-  pub step : stepOf s b ≡ next
+  pub step : tableStep s b ≡ next
   pub given : givenOf s b ≡ next
 
 -- where the condition holds, the state is as told
 lead-test : (ℕ → Bool) → ℕ → ℕ → ℕ → Bool
-lead-test cond s next b = implied (cond b) (eqb (stepOf s b) next && eqb (givenOf s b) next)
+lead-test cond s next b = implied (cond b) (eqb (tableStep s b) next && eqb (givenOf s b) next)
 
 leads : (cond : ℕ → Bool) (s next : ℕ) → T (eachBelow (lead-test cond s next) 256) → (b : ℕ) → b < 256 → cond b ≡ true → Leads s b next
 unfolding lead-test
 leads cond s next all b l e =
-    let f = eqb (stepOf s b) next in
+    let f = eqb (tableStep s b) next in
     let g = eqb (givenOf s b) next in
     let t = implied-holds (cond b) (f && g) e (at (lead-test cond s next) 256 all b l) in
-    record { step = eqb→eq (stepOf s b) next (and-left f g t); given = eqb→eq (givenOf s b) next (and-right f g t) }
+    record { step = eqb→eq (tableStep s b) next (and-left f g t); given = eqb→eq (givenOf s b) next (and-right f g t) }
 
 -- a plain byte leaves the state in which no character is open
 plain-stays : (b : ℕ) → b < 256 → ltb b 128 ≡ true → Leads 0 b 0
-unfolding lead-test givenOf stepOf rowOf
+unfolding lead-test givenOf tableStep tableRow
 plain-stays = leads (λ b. ltb b 128) 0 0 tt
 
 -- a character of three bytes: its first byte opens it, and two tails end it
 opens : (b : ℕ) → b < 256 → leadOf b ≡ true → Leads 0 b 12
-unfolding lead-test givenOf stepOf rowOf
+unfolding lead-test givenOf tableStep tableRow
 opens = leads leadOf 0 12 tt
 
 tail-first : (b : ℕ) → b < 256 → tailOf b ≡ true → Leads 12 b 6
-unfolding lead-test givenOf stepOf rowOf
+unfolding lead-test givenOf tableStep tableRow
 tail-first = leads tailOf 12 6 tt
 
 tail-last : (b : ℕ) → b < 256 → tailOf b ≡ true → Leads 6 b 0
-unfolding lead-test givenOf stepOf rowOf
+unfolding lead-test givenOf tableStep tableRow
 tail-last = leads tailOf 6 0 tt
 
 -- ---- the octets of a word
@@ -124,8 +124,8 @@ from-three s a b c e none one two =
     (λ y. split (eqb s 12) (λ z. two (eqb-true s 12 z) (rw (x, y, z) at e)) (λ z. true-false (sym (rw (x, y, z) at e)))))
 
 -- two bytes of such characters are two of three on
-pub pair-leads : (s a b : ℕ) → a < 256 → b < 256 → pairOf s a b ≡ true → stepOf (stepOf s a) b ≡ (s + 6) % 18
-unfolding pairOf
+pub pair-leads : (s a b : ℕ) → a < 256 → b < 256 → twoThrees s a b ≡ true → tableStep (tableStep s a) b ≡ (s + 6) % 18
+unfolding twoThrees
 pair-leads s a b la lb e =
     from-three s (leadOf a && tailOf b) (tailOf a && leadOf b) (tailOf a && tailOf b) e
     (λ x t. rw (x, opens a la (and-l (leadOf a) (tailOf b) t) .step) (tail-first b lb (and-r (leadOf a) (tailOf b) t) .step))

@@ -9,7 +9,7 @@ use Rattle.laws.specs.Lists.{nonzero}
 use Rattle.utf8.specs.Utf8.{firstBad}
 use Rattle.text.specs.Octets.{octetOf}
 use Rattle.text.proofs.Back.{octet-small}
-use Rattle.fast_text.specs.Fast.{isGood, Code, stepOf, fourOf, givenOf}
+use Rattle.fast_text.specs.Fast.{isGood, Code, tableStep, fourOf, givenOf}
 use Rattle.fast_text.proofs.Due.{Due, nextDue, passes, good-law, passes-none}
 use Rattle.fast_text.proofs.Codes.{dueAt, code-zero, due-zero, due-bad, readDue, next-law, given-law, ready-law}
 
@@ -39,7 +39,7 @@ read-one o b xs = go (eqb b 0)
     go true = refl
     go false = refl
 
-read-step : {s b : ℕ} (xs : List ℕ) {v : Bool} → b < 256 → Stands s (nonzero (b ∷ xs)) v → Stands (stepOf s b) (nonzero xs) v
+read-step : {s b : ℕ} (xs : List ℕ) {v : Bool} → b < 256 → Stands s (nonzero (b ∷ xs)) v → Stands (tableStep s b) (nonzero xs) v
 read-step {s} {b} xs l h =
     let n = next-law s b (h .code) l in
     record { code = n .code; leads = ap (λ (o : Due). passes o (nonzero xs)) (n .due) ∙ read-one (dueAt s) b xs ∙ h .leads }

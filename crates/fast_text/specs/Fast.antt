@@ -67,8 +67,8 @@ abbrev pub movesOf : ℕ → ℕ
 movesOf k = getD move-list k 0x30c30c30c30c30
 
 -- where a byte leads from each state
-unfoldable pub rowOf : ℕ → ℕ
-rowOf b = movesOf (classesOf (b / 16) / 2 ^ (b % 16 * 4) % 16)
+unfoldable pub tableRow : ℕ → ℕ
+tableRow b = movesOf (classesOf (b / 16) / 2 ^ (b % 16 * 4) % 16)
 
 -- a number that stands for a state
 pub record Code (s : ℕ) : Type 0 where
@@ -76,8 +76,8 @@ pub record Code (s : ℕ) : Type 0 where
   pub below : s < 54
 
 -- the state after a byte
-unfoldable pub stepOf : ℕ → ℕ → ℕ
-stepOf s b = rowOf b / 2 ^ s % 64
+unfoldable pub tableStep : ℕ → ℕ → ℕ
+tableStep s b = tableRow b / 2 ^ s % 64
 
 -- ---- characters of three bytes, without the tables
 
@@ -98,8 +98,8 @@ abbrev pub tailOf : ℕ → Bool
 tailOf b = eqb (b / 64) 2
 
 -- two bytes go on with such characters: from where none is open, or one tail is due, or two
-unfoldable pub pairOf : ℕ → ℕ → ℕ → Bool
-pairOf s a b = pick (eqb s 0) (leadOf a && tailOf b) (pick (eqb s 6) (tailOf a && leadOf b) (pick (eqb s 12) (tailOf a && tailOf b) false))
+unfoldable pub twoThrees : ℕ → ℕ → ℕ → Bool
+twoThrees s a b = pick (eqb s 0) (leadOf a && tailOf b) (pick (eqb s 6) (tailOf a && leadOf b) (pick (eqb s 12) (tailOf a && tailOf b) false))
 
 -- the first three octets of a word are such a character
 unfoldable pub threeOf : ℕ → Bool
@@ -140,7 +140,7 @@ twelveAt text i = fromNone (joinedAt text i) && (fromTwo (joinedAt text (i + 4))
 
 -- the state after the octets of a word
 abbrev pub fourOf : ℕ → ℕ → ℕ
-fourOf s w = stepOf (stepOf (stepOf (stepOf s (octetOf w 0)) (octetOf w 1)) (octetOf w 2)) (octetOf w 3)
+fourOf s w = tableStep (tableStep (tableStep (tableStep s (octetOf w 0)) (octetOf w 1)) (octetOf w 2)) (octetOf w 3)
 
 -- all four octets are below 128
 unfoldable pub plainOf : ℕ → Bool
@@ -174,7 +174,7 @@ plainPacket ws offset p = pick (leb (length ws / 4) p) false (plainWords ws offs
 
 -- the state after a byte: after a zero it is that after any other ASCII byte
 unfoldable pub givenOf : ℕ → ℕ → ℕ
-givenOf s b = stepOf s (pick (eqb b 0) 1 b)
+givenOf s b = tableStep s (pick (eqb b 0) 1 b)
 
 -- octets of a word, from the first on, that are whole characters: those that a look tells
 unfoldable pub wholeOf : ℕ → ℕ

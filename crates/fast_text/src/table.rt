@@ -1,7 +1,7 @@
 // A byte more, by tables: state 6 k says what is due. A table is a match with one literal an arm, which is compiled to read-only data.
 ghost use mathlib.Core.Path.{_≡_};
 ghost use Prim.Native.Nat.{_<_};
-ghost use Rattle.fast_text.specs.Fast.{classesOf, movesOf, rowOf, stepOf};
+ghost use Rattle.fast_text.specs.Fast.{classesOf, movesOf, tableRow, tableStep};
 
 // The state of bad text.
 pub(crate) const BAD: u64 = 48;
@@ -64,7 +64,7 @@ fn moves(k: u64) -> u64
 
 // Where b leads from each state.
 fn row(b: u8) -> u64
-    ensures { λ r. ⌜ r ≡ rowOf b ⌝ }
+    ensures { λ r. ⌜ r ≡ tableRow b ⌝ }
 {
     moves((classes(b / 16) >> (b % 16 * 4)) % 16)
 }
@@ -72,7 +72,7 @@ fn row(b: u8) -> u64
 // The state after b. `small` is what lets the next step shift by it.
 pub(crate) fn step(s: u64, b: u8) -> u64
     requires { ⌜ s < 64 ⌝ }
-    ensures { λ r. ⌜ r ≡ stepOf s b ⌝ }
+    ensures { λ r. ⌜ r ≡ tableStep s b ⌝ }
     ensures small { λ r. ⌜ r < 64 ⌝ }
 {
     (row(b) >> s) % 64

@@ -1,6 +1,6 @@
 // Characters of three bytes whose first may be followed by any two tails: told by a look, without the tables.
 ghost use mathlib.Core.Path.{_≡_};
-ghost use Rattle.fast_text.specs.Fast.{highOf, freeOf, tailOf, leadOf, pairOf, threeOf, lastThree, fromNone, fromOne, fromTwo, quadOf, runOf};
+ghost use Rattle.fast_text.specs.Fast.{highOf, freeOf, tailOf, leadOf, twoThrees, threeOf, lastThree, fromNone, fromOne, fromTwo, quadOf, runOf};
 
 // Whether a byte is one of E0..EF.
 fn high(b: u32) -> bool
@@ -32,7 +32,7 @@ fn lead(b: u32) -> bool
 
 // Whether two bytes go on with such characters: from where none is open, or one tail is due, or two.
 pub(crate) fn pair(s: u64, a: u32, b: u32) -> bool
-    ensures { λ r. ⌜ r ≡ pairOf s a b ⌝ }
+    ensures { λ r. ⌜ r ≡ twoThrees s a b ⌝ }
 {
     match s {
         0 => lead(a) && tail(b),

@@ -5,7 +5,7 @@ ghost use lib.ListN.{length};
 ghost use Rattle.utf8.specs.Utf8.{firstBad};
 ghost use Rattle.text.specs.Bytes.{textOf};
 ghost use Rattle.text.specs.Octets.{octetOf};
-ghost use Rattle.fast_text.specs.Fast.{isGood, Code, stepOf, fourOf, plainOf, maskOf};
+ghost use Rattle.fast_text.specs.Fast.{isGood, Code, tableStep, fourOf, plainOf, maskOf};
 use crate::table::BAD;
 use crate::table::step;
 use crate::threes::pair;
@@ -15,7 +15,7 @@ use crate::threes::run;
 // The state after two octets, without the tables where they go on with characters of three.
 fn two(s: u64, a: u8, b: u8) -> u64
     requires { ⌜ Code s ⌝ }
-    ensures { λ r. ⌜ r ≡ stepOf (stepOf s a) b ⌝ }
+    ensures { λ r. ⌜ r ≡ tableStep (tableStep s a) b ⌝ }
     ensures code { λ r. ⌜ Code r ⌝ }
 {
     if pair(s, a as u32, b as u32) {
@@ -27,7 +27,7 @@ fn two(s: u64, a: u8, b: u8) -> u64
 // The state after the first two octets of w: they are zero where what is not text is masked.
 fn half(s: u64, w: u32) -> u64
     requires { ⌜ Code s ⌝ }
-    ensures { λ r. ⌜ r ≡ stepOf (stepOf s (octetOf w 0)) (octetOf w 1) ⌝ }
+    ensures { λ r. ⌜ r ≡ tableStep (tableStep s (octetOf w 0)) (octetOf w 1) ⌝ }
     ensures code { λ r. ⌜ Code r ⌝ }
 {
     if w < 0x10000 {

@@ -3,22 +3,26 @@ use Prim.Native.Nat.{ℕ}
 use mathlib.Core.List.{List}
 use Rattle.counts.specs.Counts.{packet, byte}
 use Rattle.text.specs.declared.TextPlace.{TextPlace}
-use Rattle.kinds.specs.Fields.{Setting}
+use Rattle.kinds.specs.Fields.{Number, Setting}
+use Rattle.fields.specs.declared.NumberName.{NumberName}
+use Rattle.fields.specs.declared.NumberName.the-variants as N
+use Rattle.fields.specs.Named.{numberNamed}
 use Rattle.records.specs.declared.message.Message.{Message}
-use Rattle.records.specs.Settings.{setRecord}
+use Rattle.records.specs.Records.{kindIn}
+use Rattle.records.specs.Settings.{majorOf, minorOf, setRecord}
 use Rattle.standard.specs.Words.{Left, unchanged, setOn, writeOn}
-use Rattle.crossing.specs.declared.numbers.Numbers.{Numbers}
-use Rattle.crossing.specs.declared.answers.RecordAnswer.{RecordAnswer}
-use Rattle.crossing.specs.declared.given.Given.{Given}
-use Rattle.crossing.specs.declared.given.Given.the-variants as G
-use Rattle.crossing.specs.declared.choices.HintGiven.{HintGiven}
-use Rattle.crossing.specs.declared.choices.HintGiven.the-variants as H
-use Rattle.crossing.specs.declared.choices.PortGiven.{PortGiven}
-use Rattle.crossing.specs.declared.choices.PortGiven.the-variants as P
-use Rattle.crossing.specs.declared.choices.DirectionGiven.{DirectionGiven}
-use Rattle.crossing.specs.declared.choices.DirectionGiven.the-variants as D
-use Rattle.crossing.specs.Crossed.{withRefusal, editedCrossed}
-use Rattle.crossing.specs.Given.{givenOf, hintGiven, portGiven, directionGiven}
+use Rattle.c_structs.specs.declared.numbers.Numbers.{Numbers}
+use Rattle.c_structs.specs.declared.answers.RecordAnswer.{RecordAnswer}
+use Rattle.c_structs.specs.declared.given.Given.{Given}
+use Rattle.c_structs.specs.declared.given.Given.the-variants as G
+use Rattle.c_structs.specs.declared.choices.HintGiven.{HintGiven}
+use Rattle.c_structs.specs.declared.choices.HintGiven.the-variants as H
+use Rattle.c_structs.specs.declared.choices.PortGiven.{PortGiven}
+use Rattle.c_structs.specs.declared.choices.PortGiven.the-variants as P
+use Rattle.c_structs.specs.declared.choices.DirectionGiven.{DirectionGiven}
+use Rattle.c_structs.specs.declared.choices.DirectionGiven.the-variants as D
+use Rattle.c_structs.specs.Crossed.{withRefusal, editedCrossed}
+use Rattle.c_structs.specs.Given.{givenOf, hintGiven, portGiven, directionGiven}
 
 -- a text place from its two numbers
 abbrev pub placeAt : ℕ → ℕ → TextPlace
@@ -53,6 +57,19 @@ setGiven (G.Refused r) s c = withRefusal r c
 
 abbrev pub setIn : (Message → Setting) → Numbers → RecordAnswer
 setIn s c = setGiven (givenOf c) s c
+
+-- a number of a record by its name: a version is that of the record's own kind
+abbrev pub numberIn : NumberName → ℕ → Message → Setting
+numberIn N.DiscoveryVersionMajor x m = Setting.number (majorOf (kindIn m)) x
+numberIn N.DiscoveryVersionMinor x m = Setting.number (minorOf (kindIn m)) x
+numberIn N.InfoVersionMajor x m = Setting.number (majorOf (kindIn m)) x
+numberIn N.InfoVersionMinor x m = Setting.number (minorOf (kindIn m)) x
+numberIn N.NumberOfFunctionBlocks x m = Setting.number Number.number-of-function-blocks x
+numberIn N.FunctionBlockNumber x m = Setting.number Number.function-block-number x
+numberIn N.FirstGroup x m = Setting.number Number.first-group x
+numberIn N.NumberOfGroupsSpanned x m = Setting.number Number.number-of-groups-spanned x
+numberIn N.MidiCiVersion x m = Setting.number Number.midi-ci-version x
+numberIn N.MaxNumberOfMidiCiStreams x m = Setting.number Number.max-number-of-midi-ci-streams x
 
 abbrev hintEdit : HintGiven → Numbers → RecordAnswer
 hintEdit (H.Is h) c = setIn (λ m. Setting.ui-hint h) c

@@ -2,16 +2,19 @@
 ghost use mathlib.Core.Path.{_≡_};
 ghost use Rattle.kinds.specs.Fields.{Pair, Setting};
 ghost use Rattle.standard.specs.Words.{setOn};
-ghost use Rattle.crossing.specs.Crossed.{answered};
+ghost use Rattle.c_structs.specs.Crossed.{answered};
 ghost use Rattle.frayedbin.specs.Calls.{setIn};
-use crossing::answers::Answered;
-use crossing::answers::RecordAnswer;
-use crossing::answers::of_answer;
-use crossing::answers::of_edited;
-use crossing::answers::refused_record;
-use crossing::given::Given;
-use crossing::given::of_numbers;
-use crossing::numbers::Numbers;
+use crate::named::pair_in;
+use crate::named::pair_on;
+use c_structs::answers::Answered;
+use c_structs::answers::RecordAnswer;
+use c_structs::answers::of_answer;
+use c_structs::answers::of_edited;
+use c_structs::answers::refused_record;
+use c_structs::given::Given;
+use c_structs::given::of_numbers;
+use c_structs::numbers::Numbers;
+use fields::PairName;
 use settings::device_identity;
 
 #[no_mangle]
@@ -35,7 +38,7 @@ pub extern "C" fn frayedbin_device_identity_set_device_family(
     ensures answer { λ r. ⌜ r ≡ answered (setOn (Setting.pair Pair.device-family family) (now (words .entry)) .answer) ⌝ }
     ensures buffer { λ r. ⌜ now (words .exit) ≡ setOn (Setting.pair Pair.device-family family) (now (words .entry)) .words ⌝ }
 {
-    of_answer(device_identity::set_device_family(words, family))
+    pair_on(words, PairName::DeviceFamily, family)
 }
 
 #[no_mangle]
@@ -46,7 +49,7 @@ pub extern "C" fn frayedbin_device_identity_set_device_family_model_number(
     ensures answer { λ r. ⌜ r ≡ answered (setOn (Setting.pair Pair.device-family-model-number model) (now (words .entry)) .answer) ⌝ }
     ensures buffer { λ r. ⌜ now (words .exit) ≡ setOn (Setting.pair Pair.device-family-model-number model) (now (words .entry)) .words ⌝ }
 {
-    of_answer(device_identity::set_device_family_model_number(words, model))
+    pair_on(words, PairName::DeviceFamilyModelNumber, model)
 }
 
 #[no_mangle]
@@ -84,10 +87,7 @@ pub extern "C" fn frayedbin_record_set_device_manufacturer(
 pub extern "C" fn frayedbin_record_set_device_family(record: Numbers, family: u32) -> RecordAnswer
     ensures { λ r. ⌜ r ≡ setIn (λ m. Setting.pair Pair.device-family family) «record» ⌝ }
 {
-    match of_numbers(record) {
-        Given::Message(message) => of_edited(message.set_device_family(family), record),
-        Given::Refused(refusal) => refused_record(refusal, record),
-    }
+    pair_in(record, PairName::DeviceFamily, family)
 }
 
 #[no_mangle]
@@ -97,10 +97,7 @@ pub extern "C" fn frayedbin_record_set_device_family_model_number(
 ) -> RecordAnswer
     ensures { λ r. ⌜ r ≡ setIn (λ m. Setting.pair Pair.device-family-model-number model) «record» ⌝ }
 {
-    match of_numbers(record) {
-        Given::Message(message) => of_edited(message.set_device_family_model_number(model), record),
-        Given::Refused(refusal) => refused_record(refusal, record),
-    }
+    pair_in(record, PairName::DeviceFamilyModelNumber, model)
 }
 
 #[no_mangle]

@@ -2,17 +2,16 @@
 ghost use mathlib.Core.Path.{_≡_};
 ghost use Rattle.kinds.specs.Fields.{Flag, Number, Setting};
 ghost use Rattle.standard.specs.Words.{setOn};
-ghost use Rattle.crossing.specs.Crossed.{answered};
+ghost use Rattle.c_structs.specs.Crossed.{answered};
 ghost use Rattle.frayedbin.specs.Calls.{setIn};
-use crossing::answers::Answered;
-use crossing::answers::RecordAnswer;
-use crossing::answers::of_answer;
-use crossing::answers::of_edited;
-use crossing::answers::refused_record;
-use crossing::given::Given;
-use crossing::given::of_numbers;
-use crossing::numbers::Numbers;
-use settings::endpoint_discovery;
+use crate::named::flag_in;
+use crate::named::flag_on;
+use crate::named::number_on;
+use c_structs::answers::Answered;
+use c_structs::answers::RecordAnswer;
+use c_structs::numbers::Numbers;
+use fields::FlagName;
+use fields::NumberName;
 
 #[no_mangle]
 pub extern "C" fn frayedbin_endpoint_discovery_set_ump_version_major(
@@ -22,7 +21,7 @@ pub extern "C" fn frayedbin_endpoint_discovery_set_ump_version_major(
     ensures answer { λ r. ⌜ r ≡ answered (setOn (Setting.number Number.discovery-version-major version) (now (words .entry)) .answer) ⌝ }
     ensures buffer { λ r. ⌜ now (words .exit) ≡ setOn (Setting.number Number.discovery-version-major version) (now (words .entry)) .words ⌝ }
 {
-    of_answer(endpoint_discovery::set_ump_version_major(words, version))
+    number_on(words, NumberName::DiscoveryVersionMajor, version)
 }
 
 #[no_mangle]
@@ -33,7 +32,7 @@ pub extern "C" fn frayedbin_endpoint_discovery_set_ump_version_minor(
     ensures answer { λ r. ⌜ r ≡ answered (setOn (Setting.number Number.discovery-version-minor version) (now (words .entry)) .answer) ⌝ }
     ensures buffer { λ r. ⌜ now (words .exit) ≡ setOn (Setting.number Number.discovery-version-minor version) (now (words .entry)) .words ⌝ }
 {
-    of_answer(endpoint_discovery::set_ump_version_minor(words, version))
+    number_on(words, NumberName::DiscoveryVersionMinor, version)
 }
 
 #[no_mangle]
@@ -44,7 +43,7 @@ pub extern "C" fn frayedbin_endpoint_discovery_set_request_endpoint_info(
     ensures answer { λ r. ⌜ r ≡ answered (setOn (Setting.flag Flag.request-endpoint-info on) (now (words .entry)) .answer) ⌝ }
     ensures buffer { λ r. ⌜ now (words .exit) ≡ setOn (Setting.flag Flag.request-endpoint-info on) (now (words .entry)) .words ⌝ }
 {
-    of_answer(endpoint_discovery::set_request_endpoint_info(words, on))
+    flag_on(words, FlagName::RequestEndpointInfo, on)
 }
 
 #[no_mangle]
@@ -55,7 +54,7 @@ pub extern "C" fn frayedbin_endpoint_discovery_set_request_device_identity(
     ensures answer { λ r. ⌜ r ≡ answered (setOn (Setting.flag Flag.request-device-identity on) (now (words .entry)) .answer) ⌝ }
     ensures buffer { λ r. ⌜ now (words .exit) ≡ setOn (Setting.flag Flag.request-device-identity on) (now (words .entry)) .words ⌝ }
 {
-    of_answer(endpoint_discovery::set_request_device_identity(words, on))
+    flag_on(words, FlagName::RequestDeviceIdentity, on)
 }
 
 #[no_mangle]
@@ -66,7 +65,7 @@ pub extern "C" fn frayedbin_endpoint_discovery_set_request_endpoint_name(
     ensures answer { λ r. ⌜ r ≡ answered (setOn (Setting.flag Flag.request-endpoint-name on) (now (words .entry)) .answer) ⌝ }
     ensures buffer { λ r. ⌜ now (words .exit) ≡ setOn (Setting.flag Flag.request-endpoint-name on) (now (words .entry)) .words ⌝ }
 {
-    of_answer(endpoint_discovery::set_request_endpoint_name(words, on))
+    flag_on(words, FlagName::RequestEndpointName, on)
 }
 
 #[no_mangle]
@@ -77,7 +76,7 @@ pub extern "C" fn frayedbin_endpoint_discovery_set_request_product_instance_id(
     ensures answer { λ r. ⌜ r ≡ answered (setOn (Setting.flag Flag.request-product-instance-id on) (now (words .entry)) .answer) ⌝ }
     ensures buffer { λ r. ⌜ now (words .exit) ≡ setOn (Setting.flag Flag.request-product-instance-id on) (now (words .entry)) .words ⌝ }
 {
-    of_answer(endpoint_discovery::set_request_product_instance_id(words, on))
+    flag_on(words, FlagName::RequestProductInstanceId, on)
 }
 
 #[no_mangle]
@@ -88,7 +87,7 @@ pub extern "C" fn frayedbin_endpoint_discovery_set_request_stream_configuration(
     ensures answer { λ r. ⌜ r ≡ answered (setOn (Setting.flag Flag.request-stream-configuration on) (now (words .entry)) .answer) ⌝ }
     ensures buffer { λ r. ⌜ now (words .exit) ≡ setOn (Setting.flag Flag.request-stream-configuration on) (now (words .entry)) .words ⌝ }
 {
-    of_answer(endpoint_discovery::set_request_stream_configuration(words, on))
+    flag_on(words, FlagName::RequestStreamConfiguration, on)
 }
 
 // On a record.
@@ -100,10 +99,7 @@ pub extern "C" fn frayedbin_record_set_request_endpoint_info(
 ) -> RecordAnswer
     ensures { λ r. ⌜ r ≡ setIn (λ m. Setting.flag Flag.request-endpoint-info on) «record» ⌝ }
 {
-    match of_numbers(record) {
-        Given::Message(message) => of_edited(message.set_request_endpoint_info(on), record),
-        Given::Refused(refusal) => refused_record(refusal, record),
-    }
+    flag_in(record, FlagName::RequestEndpointInfo, on)
 }
 
 #[no_mangle]
@@ -113,10 +109,7 @@ pub extern "C" fn frayedbin_record_set_request_device_identity(
 ) -> RecordAnswer
     ensures { λ r. ⌜ r ≡ setIn (λ m. Setting.flag Flag.request-device-identity on) «record» ⌝ }
 {
-    match of_numbers(record) {
-        Given::Message(message) => of_edited(message.set_request_device_identity(on), record),
-        Given::Refused(refusal) => refused_record(refusal, record),
-    }
+    flag_in(record, FlagName::RequestDeviceIdentity, on)
 }
 
 #[no_mangle]
@@ -126,10 +119,7 @@ pub extern "C" fn frayedbin_record_set_request_endpoint_name(
 ) -> RecordAnswer
     ensures { λ r. ⌜ r ≡ setIn (λ m. Setting.flag Flag.request-endpoint-name on) «record» ⌝ }
 {
-    match of_numbers(record) {
-        Given::Message(message) => of_edited(message.set_request_endpoint_name(on), record),
-        Given::Refused(refusal) => refused_record(refusal, record),
-    }
+    flag_in(record, FlagName::RequestEndpointName, on)
 }
 
 #[no_mangle]
@@ -139,10 +129,7 @@ pub extern "C" fn frayedbin_record_set_request_product_instance_id(
 ) -> RecordAnswer
     ensures { λ r. ⌜ r ≡ setIn (λ m. Setting.flag Flag.request-product-instance-id on) «record» ⌝ }
 {
-    match of_numbers(record) {
-        Given::Message(message) => of_edited(message.set_request_product_instance_id(on), record),
-        Given::Refused(refusal) => refused_record(refusal, record),
-    }
+    flag_in(record, FlagName::RequestProductInstanceId, on)
 }
 
 #[no_mangle]
@@ -152,8 +139,5 @@ pub extern "C" fn frayedbin_record_set_request_stream_configuration(
 ) -> RecordAnswer
     ensures { λ r. ⌜ r ≡ setIn (λ m. Setting.flag Flag.request-stream-configuration on) «record» ⌝ }
 {
-    match of_numbers(record) {
-        Given::Message(message) => of_edited(message.set_request_stream_configuration(on), record),
-        Given::Refused(refusal) => refused_record(refusal, record),
-    }
+    flag_in(record, FlagName::RequestStreamConfiguration, on)
 }

@@ -2,17 +2,17 @@
 ghost use mathlib.Core.Path.{_≡_};
 ghost use Rattle.kinds.specs.Fields.{Flag, Number, Setting};
 ghost use Rattle.standard.specs.Words.{setOn};
-ghost use Rattle.crossing.specs.Crossed.{answered};
+ghost use Rattle.c_structs.specs.Crossed.{answered};
 ghost use Rattle.frayedbin.specs.Calls.{setIn};
-use crossing::answers::Answered;
-use crossing::answers::RecordAnswer;
-use crossing::answers::of_answer;
-use crossing::answers::of_edited;
-use crossing::answers::refused_record;
-use crossing::given::Given;
-use crossing::given::of_numbers;
-use crossing::numbers::Numbers;
-use settings::endpoint_info;
+use crate::named::flag_in;
+use crate::named::flag_on;
+use crate::named::number_in;
+use crate::named::number_on;
+use c_structs::answers::Answered;
+use c_structs::answers::RecordAnswer;
+use c_structs::numbers::Numbers;
+use fields::FlagName;
+use fields::NumberName;
 
 #[no_mangle]
 pub extern "C" fn frayedbin_endpoint_info_set_ump_version_major(
@@ -22,7 +22,7 @@ pub extern "C" fn frayedbin_endpoint_info_set_ump_version_major(
     ensures answer { λ r. ⌜ r ≡ answered (setOn (Setting.number Number.info-version-major version) (now (words .entry)) .answer) ⌝ }
     ensures buffer { λ r. ⌜ now (words .exit) ≡ setOn (Setting.number Number.info-version-major version) (now (words .entry)) .words ⌝ }
 {
-    of_answer(endpoint_info::set_ump_version_major(words, version))
+    number_on(words, NumberName::InfoVersionMajor, version)
 }
 
 #[no_mangle]
@@ -33,7 +33,7 @@ pub extern "C" fn frayedbin_endpoint_info_set_ump_version_minor(
     ensures answer { λ r. ⌜ r ≡ answered (setOn (Setting.number Number.info-version-minor version) (now (words .entry)) .answer) ⌝ }
     ensures buffer { λ r. ⌜ now (words .exit) ≡ setOn (Setting.number Number.info-version-minor version) (now (words .entry)) .words ⌝ }
 {
-    of_answer(endpoint_info::set_ump_version_minor(words, version))
+    number_on(words, NumberName::InfoVersionMinor, version)
 }
 
 #[no_mangle]
@@ -44,7 +44,7 @@ pub extern "C" fn frayedbin_endpoint_info_set_static_function_blocks(
     ensures answer { λ r. ⌜ r ≡ answered (setOn (Setting.flag Flag.static-function-blocks on) (now (words .entry)) .answer) ⌝ }
     ensures buffer { λ r. ⌜ now (words .exit) ≡ setOn (Setting.flag Flag.static-function-blocks on) (now (words .entry)) .words ⌝ }
 {
-    of_answer(endpoint_info::set_static_function_blocks(words, on))
+    flag_on(words, FlagName::StaticFunctionBlocks, on)
 }
 
 #[no_mangle]
@@ -55,7 +55,7 @@ pub extern "C" fn frayedbin_endpoint_info_set_supports_midi2_protocol(
     ensures answer { λ r. ⌜ r ≡ answered (setOn (Setting.flag Flag.supports-midi2-protocol on) (now (words .entry)) .answer) ⌝ }
     ensures buffer { λ r. ⌜ now (words .exit) ≡ setOn (Setting.flag Flag.supports-midi2-protocol on) (now (words .entry)) .words ⌝ }
 {
-    of_answer(endpoint_info::set_supports_midi2_protocol(words, on))
+    flag_on(words, FlagName::SupportsMidi2Protocol, on)
 }
 
 #[no_mangle]
@@ -66,7 +66,7 @@ pub extern "C" fn frayedbin_endpoint_info_set_supports_midi1_protocol(
     ensures answer { λ r. ⌜ r ≡ answered (setOn (Setting.flag Flag.supports-midi1-protocol on) (now (words .entry)) .answer) ⌝ }
     ensures buffer { λ r. ⌜ now (words .exit) ≡ setOn (Setting.flag Flag.supports-midi1-protocol on) (now (words .entry)) .words ⌝ }
 {
-    of_answer(endpoint_info::set_supports_midi1_protocol(words, on))
+    flag_on(words, FlagName::SupportsMidi1Protocol, on)
 }
 
 #[no_mangle]
@@ -77,7 +77,7 @@ pub extern "C" fn frayedbin_endpoint_info_set_supports_receiving_jr_timestamps(
     ensures answer { λ r. ⌜ r ≡ answered (setOn (Setting.flag Flag.supports-receiving-jr-timestamps on) (now (words .entry)) .answer) ⌝ }
     ensures buffer { λ r. ⌜ now (words .exit) ≡ setOn (Setting.flag Flag.supports-receiving-jr-timestamps on) (now (words .entry)) .words ⌝ }
 {
-    of_answer(endpoint_info::set_supports_receiving_jr_timestamps(words, on))
+    flag_on(words, FlagName::SupportsReceivingJrTimestamps, on)
 }
 
 #[no_mangle]
@@ -88,7 +88,7 @@ pub extern "C" fn frayedbin_endpoint_info_set_supports_sending_jr_timestamps(
     ensures answer { λ r. ⌜ r ≡ answered (setOn (Setting.flag Flag.supports-sending-jr-timestamps on) (now (words .entry)) .answer) ⌝ }
     ensures buffer { λ r. ⌜ now (words .exit) ≡ setOn (Setting.flag Flag.supports-sending-jr-timestamps on) (now (words .entry)) .words ⌝ }
 {
-    of_answer(endpoint_info::set_supports_sending_jr_timestamps(words, on))
+    flag_on(words, FlagName::SupportsSendingJrTimestamps, on)
 }
 
 #[no_mangle]
@@ -99,7 +99,7 @@ pub extern "C" fn frayedbin_endpoint_info_set_number_of_function_blocks(
     ensures answer { λ r. ⌜ r ≡ answered (setOn (Setting.number Number.number-of-function-blocks number) (now (words .entry)) .answer) ⌝ }
     ensures buffer { λ r. ⌜ now (words .exit) ≡ setOn (Setting.number Number.number-of-function-blocks number) (now (words .entry)) .words ⌝ }
 {
-    of_answer(endpoint_info::set_number_of_function_blocks(words, number))
+    number_on(words, NumberName::NumberOfFunctionBlocks, number)
 }
 
 // On a record.
@@ -111,10 +111,7 @@ pub extern "C" fn frayedbin_record_set_static_function_blocks(
 ) -> RecordAnswer
     ensures { λ r. ⌜ r ≡ setIn (λ m. Setting.flag Flag.static-function-blocks on) «record» ⌝ }
 {
-    match of_numbers(record) {
-        Given::Message(message) => of_edited(message.set_static_function_blocks(on), record),
-        Given::Refused(refusal) => refused_record(refusal, record),
-    }
+    flag_in(record, FlagName::StaticFunctionBlocks, on)
 }
 
 #[no_mangle]
@@ -124,10 +121,7 @@ pub extern "C" fn frayedbin_record_set_supports_midi2_protocol(
 ) -> RecordAnswer
     ensures { λ r. ⌜ r ≡ setIn (λ m. Setting.flag Flag.supports-midi2-protocol on) «record» ⌝ }
 {
-    match of_numbers(record) {
-        Given::Message(message) => of_edited(message.set_supports_midi2_protocol(on), record),
-        Given::Refused(refusal) => refused_record(refusal, record),
-    }
+    flag_in(record, FlagName::SupportsMidi2Protocol, on)
 }
 
 #[no_mangle]
@@ -137,10 +131,7 @@ pub extern "C" fn frayedbin_record_set_supports_midi1_protocol(
 ) -> RecordAnswer
     ensures { λ r. ⌜ r ≡ setIn (λ m. Setting.flag Flag.supports-midi1-protocol on) «record» ⌝ }
 {
-    match of_numbers(record) {
-        Given::Message(message) => of_edited(message.set_supports_midi1_protocol(on), record),
-        Given::Refused(refusal) => refused_record(refusal, record),
-    }
+    flag_in(record, FlagName::SupportsMidi1Protocol, on)
 }
 
 #[no_mangle]
@@ -150,13 +141,7 @@ pub extern "C" fn frayedbin_record_set_supports_receiving_jr_timestamps(
 ) -> RecordAnswer
     ensures { λ r. ⌜ r ≡ setIn (λ m. Setting.flag Flag.supports-receiving-jr-timestamps on) «record» ⌝ }
 {
-    match of_numbers(record) {
-        Given::Message(message) => of_edited(
-            message.set_supports_receiving_jr_timestamps(on),
-            record,
-        ),
-        Given::Refused(refusal) => refused_record(refusal, record),
-    }
+    flag_in(record, FlagName::SupportsReceivingJrTimestamps, on)
 }
 
 #[no_mangle]
@@ -166,13 +151,7 @@ pub extern "C" fn frayedbin_record_set_supports_sending_jr_timestamps(
 ) -> RecordAnswer
     ensures { λ r. ⌜ r ≡ setIn (λ m. Setting.flag Flag.supports-sending-jr-timestamps on) «record» ⌝ }
 {
-    match of_numbers(record) {
-        Given::Message(message) => of_edited(
-            message.set_supports_sending_jr_timestamps(on),
-            record,
-        ),
-        Given::Refused(refusal) => refused_record(refusal, record),
-    }
+    flag_in(record, FlagName::SupportsSendingJrTimestamps, on)
 }
 
 #[no_mangle]
@@ -182,8 +161,5 @@ pub extern "C" fn frayedbin_record_set_number_of_function_blocks(
 ) -> RecordAnswer
     ensures { λ r. ⌜ r ≡ setIn (λ m. Setting.number Number.number-of-function-blocks number) «record» ⌝ }
 {
-    match of_numbers(record) {
-        Given::Message(message) => of_edited(message.set_number_of_function_blocks(number), record),
-        Given::Refused(refusal) => refused_record(refusal, record),
-    }
+    number_in(record, NumberName::NumberOfFunctionBlocks, number)
 }

@@ -2,23 +2,29 @@
 ghost use mathlib.Core.Path.{_≡_};
 ghost use Rattle.kinds.specs.Fields.{Flag, Number, Setting};
 ghost use Rattle.standard.specs.Words.{setOn};
-ghost use Rattle.crossing.specs.Crossed.{answered};
+ghost use Rattle.c_structs.specs.Crossed.{answered};
 ghost use Rattle.frayedbin.specs.Calls.{hintOn, portOn, directionOn, setIn, hintIn, portIn, directionIn};
-use crossing::answers::Answered;
-use crossing::answers::RecordAnswer;
-use crossing::answers::of_answer;
-use crossing::answers::of_edited;
-use crossing::answers::of_refusal;
-use crossing::answers::refused_record;
-use crossing::choices::DirectionGiven;
-use crossing::choices::HintGiven;
-use crossing::choices::PortGiven;
-use crossing::choices::direction_given;
-use crossing::choices::hint_given;
-use crossing::choices::port_given;
-use crossing::given::Given;
-use crossing::given::of_numbers;
-use crossing::numbers::Numbers;
+use crate::named::flag_in;
+use crate::named::flag_on;
+use crate::named::number_in;
+use crate::named::number_on;
+use c_structs::answers::Answered;
+use c_structs::answers::RecordAnswer;
+use c_structs::answers::of_answer;
+use c_structs::answers::of_edited;
+use c_structs::answers::of_refusal;
+use c_structs::answers::refused_record;
+use c_structs::choices::DirectionGiven;
+use c_structs::choices::HintGiven;
+use c_structs::choices::PortGiven;
+use c_structs::choices::direction_given;
+use c_structs::choices::hint_given;
+use c_structs::choices::port_given;
+use c_structs::given::Given;
+use c_structs::given::of_numbers;
+use c_structs::numbers::Numbers;
+use fields::FlagName;
+use fields::NumberName;
 use settings::function_block_info;
 
 #[no_mangle]
@@ -26,7 +32,7 @@ pub extern "C" fn frayedbin_function_block_info_set_active(words: &mut [u32], on
     ensures answer { λ r. ⌜ r ≡ answered (setOn (Setting.flag Flag.active on) (now (words .entry)) .answer) ⌝ }
     ensures buffer { λ r. ⌜ now (words .exit) ≡ setOn (Setting.flag Flag.active on) (now (words .entry)) .words ⌝ }
 {
-    of_answer(function_block_info::set_active(words, on))
+    flag_on(words, FlagName::Active, on)
 }
 
 #[no_mangle]
@@ -37,7 +43,7 @@ pub extern "C" fn frayedbin_function_block_info_set_function_block_number(
     ensures answer { λ r. ⌜ r ≡ answered (setOn (Setting.number Number.function-block-number number) (now (words .entry)) .answer) ⌝ }
     ensures buffer { λ r. ⌜ now (words .exit) ≡ setOn (Setting.number Number.function-block-number number) (now (words .entry)) .words ⌝ }
 {
-    of_answer(function_block_info::set_function_block_number(words, number))
+    number_on(words, NumberName::FunctionBlockNumber, number)
 }
 
 #[no_mangle]
@@ -93,7 +99,7 @@ pub extern "C" fn frayedbin_function_block_info_set_first_group(
     ensures answer { λ r. ⌜ r ≡ answered (setOn (Setting.number Number.first-group group) (now (words .entry)) .answer) ⌝ }
     ensures buffer { λ r. ⌜ now (words .exit) ≡ setOn (Setting.number Number.first-group group) (now (words .entry)) .words ⌝ }
 {
-    of_answer(function_block_info::set_first_group(words, group))
+    number_on(words, NumberName::FirstGroup, group)
 }
 
 #[no_mangle]
@@ -104,7 +110,7 @@ pub extern "C" fn frayedbin_function_block_info_set_number_of_groups_spanned(
     ensures answer { λ r. ⌜ r ≡ answered (setOn (Setting.number Number.number-of-groups-spanned number) (now (words .entry)) .answer) ⌝ }
     ensures buffer { λ r. ⌜ now (words .exit) ≡ setOn (Setting.number Number.number-of-groups-spanned number) (now (words .entry)) .words ⌝ }
 {
-    of_answer(function_block_info::set_number_of_groups_spanned(words, number))
+    number_on(words, NumberName::NumberOfGroupsSpanned, number)
 }
 
 #[no_mangle]
@@ -115,7 +121,7 @@ pub extern "C" fn frayedbin_function_block_info_set_midi_ci_version(
     ensures answer { λ r. ⌜ r ≡ answered (setOn (Setting.number Number.midi-ci-version version) (now (words .entry)) .answer) ⌝ }
     ensures buffer { λ r. ⌜ now (words .exit) ≡ setOn (Setting.number Number.midi-ci-version version) (now (words .entry)) .words ⌝ }
 {
-    of_answer(function_block_info::set_midi_ci_version(words, version))
+    number_on(words, NumberName::MidiCiVersion, version)
 }
 
 #[no_mangle]
@@ -126,7 +132,7 @@ pub extern "C" fn frayedbin_function_block_info_set_max_number_of_midi_ci_stream
     ensures answer { λ r. ⌜ r ≡ answered (setOn (Setting.number Number.max-number-of-midi-ci-streams number) (now (words .entry)) .answer) ⌝ }
     ensures buffer { λ r. ⌜ now (words .exit) ≡ setOn (Setting.number Number.max-number-of-midi-ci-streams number) (now (words .entry)) .words ⌝ }
 {
-    of_answer(function_block_info::set_max_number_of_midi_ci_streams(words, number))
+    number_on(words, NumberName::MaxNumberOfMidiCiStreams, number)
 }
 
 // On a record.
@@ -135,10 +141,7 @@ pub extern "C" fn frayedbin_function_block_info_set_max_number_of_midi_ci_stream
 pub extern "C" fn frayedbin_record_set_active(record: Numbers, on: bool) -> RecordAnswer
     ensures { λ r. ⌜ r ≡ setIn (λ m. Setting.flag Flag.active on) «record» ⌝ }
 {
-    match of_numbers(record) {
-        Given::Message(message) => of_edited(message.set_active(on), record),
-        Given::Refused(refusal) => refused_record(refusal, record),
-    }
+    flag_in(record, FlagName::Active, on)
 }
 
 #[no_mangle]
@@ -148,10 +151,7 @@ pub extern "C" fn frayedbin_record_set_function_block_number(
 ) -> RecordAnswer
     ensures { λ r. ⌜ r ≡ setIn (λ m. Setting.number Number.function-block-number number) «record» ⌝ }
 {
-    match of_numbers(record) {
-        Given::Message(message) => of_edited(message.set_function_block_number(number), record),
-        Given::Refused(refusal) => refused_record(refusal, record),
-    }
+    number_in(record, NumberName::FunctionBlockNumber, number)
 }
 
 #[no_mangle]
@@ -197,10 +197,7 @@ pub extern "C" fn frayedbin_record_set_direction(record: Numbers, code: u32) -> 
 pub extern "C" fn frayedbin_record_set_first_group(record: Numbers, group: u32) -> RecordAnswer
     ensures { λ r. ⌜ r ≡ setIn (λ m. Setting.number Number.first-group group) «record» ⌝ }
 {
-    match of_numbers(record) {
-        Given::Message(message) => of_edited(message.set_first_group(group), record),
-        Given::Refused(refusal) => refused_record(refusal, record),
-    }
+    number_in(record, NumberName::FirstGroup, group)
 }
 
 #[no_mangle]
@@ -210,10 +207,7 @@ pub extern "C" fn frayedbin_record_set_number_of_groups_spanned(
 ) -> RecordAnswer
     ensures { λ r. ⌜ r ≡ setIn (λ m. Setting.number Number.number-of-groups-spanned number) «record» ⌝ }
 {
-    match of_numbers(record) {
-        Given::Message(message) => of_edited(message.set_number_of_groups_spanned(number), record),
-        Given::Refused(refusal) => refused_record(refusal, record),
-    }
+    number_in(record, NumberName::NumberOfGroupsSpanned, number)
 }
 
 #[no_mangle]
@@ -223,10 +217,7 @@ pub extern "C" fn frayedbin_record_set_midi_ci_version(
 ) -> RecordAnswer
     ensures { λ r. ⌜ r ≡ setIn (λ m. Setting.number Number.midi-ci-version version) «record» ⌝ }
 {
-    match of_numbers(record) {
-        Given::Message(message) => of_edited(message.set_midi_ci_version(version), record),
-        Given::Refused(refusal) => refused_record(refusal, record),
-    }
+    number_in(record, NumberName::MidiCiVersion, version)
 }
 
 #[no_mangle]
@@ -236,11 +227,5 @@ pub extern "C" fn frayedbin_record_set_max_number_of_midi_ci_streams(
 ) -> RecordAnswer
     ensures { λ r. ⌜ r ≡ setIn (λ m. Setting.number Number.max-number-of-midi-ci-streams number) «record» ⌝ }
 {
-    match of_numbers(record) {
-        Given::Message(message) => of_edited(
-            message.set_max_number_of_midi_ci_streams(number),
-            record,
-        ),
-        Given::Refused(refusal) => refused_record(refusal, record),
-    }
+    number_in(record, NumberName::MaxNumberOfMidiCiStreams, number)
 }

@@ -2,16 +2,16 @@
 ghost use mathlib.Core.Path.{_≡_};
 ghost use Rattle.kinds.specs.Fields.{Number, Text, Setting};
 ghost use Rattle.standard.specs.Words.{setOn};
-ghost use Rattle.crossing.specs.Crossed.{answered};
+ghost use Rattle.c_structs.specs.Crossed.{answered};
 ghost use Rattle.frayedbin.specs.Calls.{setIn};
-use crossing::answers::Answered;
-use crossing::answers::RecordAnswer;
-use crossing::answers::of_answer;
-use crossing::answers::of_edited;
-use crossing::answers::refused_record;
-use crossing::given::Given;
-use crossing::given::of_numbers;
-use crossing::numbers::Numbers;
+use c_structs::answers::Answered;
+use c_structs::answers::RecordAnswer;
+use c_structs::answers::of_answer;
+use c_structs::answers::of_edited;
+use c_structs::answers::refused_record;
+use c_structs::given::Given;
+use c_structs::given::of_numbers;
+use c_structs::numbers::Numbers;
 use text_settings::function_block_name;
 
 #[no_mangle]

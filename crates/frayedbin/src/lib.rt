@@ -6,5 +6,6 @@ mod endpoint_info;
 mod endpoint_name;
 mod function_block_info;
 mod function_block_name;
+mod named;
 mod product_instance_id;
 mod shared_names;

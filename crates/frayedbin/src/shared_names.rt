@@ -4,12 +4,14 @@ ghost use Rattle.kinds.specs.Fields.{Text, Setting};
 ghost use Rattle.records.specs.Records.{kindIn};
 ghost use Rattle.records.specs.Settings.{majorOf, minorOf, nameOf};
 ghost use Rattle.frayedbin.specs.Calls.{setIn};
-use crossing::answers::RecordAnswer;
-use crossing::answers::of_edited;
-use crossing::answers::refused_record;
-use crossing::given::Given;
-use crossing::given::of_numbers;
-use crossing::numbers::Numbers;
+use crate::named::number_in;
+use c_structs::answers::RecordAnswer;
+use c_structs::answers::of_edited;
+use c_structs::answers::refused_record;
+use c_structs::given::Given;
+use c_structs::given::of_numbers;
+use c_structs::numbers::Numbers;
+use fields::NumberName;
 
 #[no_mangle]
 pub extern "C" fn frayedbin_record_set_ump_version_major(
@@ -18,10 +20,7 @@ pub extern "C" fn frayedbin_record_set_ump_version_major(
 ) -> RecordAnswer
     ensures { λ r. ⌜ r ≡ setIn (λ m. Setting.number (majorOf (kindIn m)) version) «record» ⌝ }
 {
-    match of_numbers(record) {
-        Given::Message(message) => of_edited(message.set_ump_version_major(version), record),
-        Given::Refused(refusal) => refused_record(refusal, record),
-    }
+    number_in(record, NumberName::InfoVersionMajor, version)
 }
 
 #[no_mangle]
@@ -31,10 +30,7 @@ pub extern "C" fn frayedbin_record_set_ump_version_minor(
 ) -> RecordAnswer
     ensures { λ r. ⌜ r ≡ setIn (λ m. Setting.number (minorOf (kindIn m)) version) «record» ⌝ }
 {
-    match of_numbers(record) {
-        Given::Message(message) => of_edited(message.set_ump_version_minor(version), record),
-        Given::Refused(refusal) => refused_record(refusal, record),
-    }
+    number_in(record, NumberName::InfoVersionMinor, version)
 }
 
 #[no_mangle]

@@ -3,34 +3,34 @@ use Prim.Native.Nat.{ℕ}
 use Rattle.kinds.specs.declared.refusal.Refusal.{Refusal}
 use Rattle.kinds.specs.declared.refusal.Refusal.the-variants.{TooFewWords, NotWholePackets, TooManyPackets, WrongType, UnknownStatus, StatusDiffers, WrongFormat, BlockNumberDiffers, BadPort, BadDirection, NotUtf8, NumberTooLarge, NoSuchField, NoRoom}
 
-abbrev pub numberOf : Refusal → ℕ
-numberOf TooFewWords = 1
-numberOf NotWholePackets = 2
-numberOf TooManyPackets = 3
-numberOf (WrongType p) = 4
-numberOf UnknownStatus = 5
-numberOf (StatusDiffers p) = 6
-numberOf (WrongFormat p) = 7
-numberOf (BlockNumberDiffers p) = 8
-numberOf BadPort = 9
-numberOf BadDirection = 10
-numberOf NotUtf8 = 11
-numberOf NumberTooLarge = 12
-numberOf NoSuchField = 13
-numberOf NoRoom = 14
+abbrev pub refusalNumber : Refusal → ℕ
+refusalNumber TooFewWords = 1
+refusalNumber NotWholePackets = 2
+refusalNumber TooManyPackets = 3
+refusalNumber (WrongType p) = 4
+refusalNumber UnknownStatus = 5
+refusalNumber (StatusDiffers p) = 6
+refusalNumber (WrongFormat p) = 7
+refusalNumber (BlockNumberDiffers p) = 8
+refusalNumber BadPort = 9
+refusalNumber BadDirection = 10
+refusalNumber NotUtf8 = 11
+refusalNumber NumberTooLarge = 12
+refusalNumber NoSuchField = 13
+refusalNumber NoRoom = 14
 
-abbrev pub placeOf : Refusal → ℕ
-placeOf TooFewWords = 0
-placeOf NotWholePackets = 0
-placeOf TooManyPackets = 0
-placeOf (WrongType p) = p .0
-placeOf UnknownStatus = 0
-placeOf (StatusDiffers p) = p .0
-placeOf (WrongFormat p) = p .0
-placeOf (BlockNumberDiffers p) = p .0
-placeOf BadPort = 0
-placeOf BadDirection = 0
-placeOf NotUtf8 = 0
-placeOf NumberTooLarge = 0
-placeOf NoSuchField = 0
-placeOf NoRoom = 0
+abbrev pub refusalPlace : Refusal → ℕ
+refusalPlace TooFewWords = 0
+refusalPlace NotWholePackets = 0
+refusalPlace TooManyPackets = 0
+refusalPlace (WrongType p) = p .0
+refusalPlace UnknownStatus = 0
+refusalPlace (StatusDiffers p) = p .0
+refusalPlace (WrongFormat p) = p .0
+refusalPlace (BlockNumberDiffers p) = p .0
+refusalPlace BadPort = 0
+refusalPlace BadDirection = 0
+refusalPlace NotUtf8 = 0
+refusalPlace NumberTooLarge = 0
+refusalPlace NoSuchField = 0
+refusalPlace NoRoom = 0

@@ -1,6 +1,6 @@
 // Why a call is refused. A case holds its place in the count that it is in; specs/Refusals.antt has the document's number of each.
 ghost use mathlib.Core.Path.{_≡_};
-ghost use Rattle.kinds.specs.Refusals.{numberOf, placeOf};
+ghost use Rattle.kinds.specs.Refusals.{refusalNumber, refusalPlace};
 use counts::PacketNumber;
 
 pub enum Refusal {
@@ -22,7 +22,7 @@ pub enum Refusal {
 
 // The document's number of a refusal.
 pub fn refusal_number(refusal: Refusal) -> u32
-    ensures { λ r. ⌜ r ≡ numberOf refusal ⌝ }
+    ensures { λ r. ⌜ r ≡ refusalNumber refusal ⌝ }
 {
     match refusal {
         Refusal::TooFewWords => 1,
@@ -44,7 +44,7 @@ pub fn refusal_number(refusal: Refusal) -> u32
 
 // The packet that is refused, and 0 where the refusal has no place.
 pub fn refusal_place(refusal: Refusal) -> usize
-    ensures { λ r. ⌜ r ≡ placeOf refusal ⌝ }
+    ensures { λ r. ⌜ r ≡ refusalPlace refusal ⌝ }
 {
     match refusal {
         Refusal::WrongType(p) => p.0,

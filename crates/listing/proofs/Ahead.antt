@@ -14,8 +14,8 @@ use Rattle.text.specs.declared.TextPlace.{TextPlace}
 use Rattle.text.specs.declared.TextStep.the-variants.{Byte, End}
 use Rattle.text.specs.declared.Stepped.{Stepped}
 use Rattle.text.proofs.Place.{length-all, hands-all, handed-is, handed-all}
-use Rattle.lines.specs.Ascii.{ascii}
-use Rattle.lines.specs.Numbers.{hexByte, shown}
+use Rattle.ascii_lines.specs.Ascii.{ascii}
+use Rattle.ascii_lines.specs.Numbers.{hexByte, shown}
 
 -- the text of all packets, and its bytes from a place on
 abbrev wholeText : List ℕ → ℕ → List ℕ

@@ -15,9 +15,9 @@ use Rattle.records.specs.Records.{recordOf, fieldsIn, lookup, firstPart}
 use Rattle.standard.specs.Reading.{ruled, otherField, readBody, readKind, readOf}
 use Rattle.standard.specs.Walk.{sizeOf, stepOf, framePacket, frameFrom, frameOf, framedOf, otherOf, walkOf}
 use Rattle.walking.specs.Visits.{visits}
-use Rattle.lines.specs.Ascii.{ascii}
-use Rattle.lines.specs.Numbers.{decimalIn, decimal, shown}
-use Rattle.listing.specs.Lines.{nameOf}
+use Rattle.ascii_lines.specs.Ascii.{ascii}
+use Rattle.ascii_lines.specs.Numbers.{decimalIn, decimal, shown}
+use Rattle.listing.specs.Lines.{kindName}
 use Rattle.listing.specs.Listing.{wordsOf, listingOf}
 
 -- a word's four bytes
@@ -36,5 +36,5 @@ lines =
     ++ ascii "end 13 0\n"
 
 pub example : listingOf bytes ≡ lines
-unfolding both first firstFrom tabulate nonzero map each get those after firstBad octetOf due textByte allBytes decided same start joined layout among held valuesIn recordOf fieldsIn lookup firstPart ruled otherField readBody readKind readOf sizeOf stepOf framePacket frameFrom frameOf framedOf otherOf walkOf decimalIn decimal shown nameOf visits wordsOf listingOf
+unfolding both first firstFrom tabulate nonzero map each get those after firstBad octetOf due textByte allBytes decided same start joined layout among held valuesIn recordOf fieldsIn lookup firstPart ruled otherField readBody readKind readOf sizeOf stepOf framePacket frameFrom frameOf framedOf otherOf walkOf decimalIn decimal shown kindName visits wordsOf listingOf
 example = refl

@@ -1,6 +1,6 @@
 -- How long a message's part of a line is: with five bytes more, at most 68 for each packet. Closed by counting the digits of each field.
 use Prim.Native.Nat.{ℕ, _+_, _*_, _/_, _≤_, _<_}
-use mathlib.Core.Path.{_≡_}
+use mathlib.Core.Path.{_≡_, refl}
 use mathlib.Core.Bool.{Bool, true, false}
 use mathlib.Core.List.{List}
 use native.Mathlib.Omega.{arith}
@@ -25,9 +25,9 @@ use Rattle.records.specs.declared.message.Message.{Message}
 use Rattle.records.specs.declared.message.Message.the-variants as M
 use Rattle.records.specs.Records.{packetsIn, fieldsIn, lookup, firstPart}
 use Rattle.standard.specs.Formed.{Formed}
-use Rattle.lines.specs.Numbers.{decimal, shown}
-use Rattle.lines.proofs.Room.{decimal-length, shown-length}
-use Rattle.listing.specs.Lines.{nameOf, messageShown}
+use Rattle.ascii_lines.specs.Numbers.{decimal, shown}
+use Rattle.ascii_lines.proofs.Room.{decimal-length, shown-length}
+use Rattle.listing.specs.Lines.{kindName, messageShown}
 use Rattle.listing.proofs.Numbers.{discovery-shown, info-shown, identity-shown, block-shown}
 
 -- ---- digits
@@ -86,20 +86,20 @@ fixed-length : {a b : List ℕ} → a ≡ b → length a ≤ 63 → length b + 5
 fixed-length e h = rw (← e) (omega arith)
 
 pub message-length : (m : Message) (t ws : List ℕ) → Formed m t ws → length (messageShown m ws) + 5 ≤ 68 * packetsIn m
-unfolding each reads layout partOf fieldsIn lookup firstPart same decided nameOf
+unfolding each reads layout partOf fieldsIn lookup firstPart same decided kindName
 message-length (M.EndpointDiscovery e) t ws f =
     let h = f .fields 0 (f .some) in
-    fixed-length (discovery-shown e ws)
+    fixed-length (discovery-shown {e = e} ws refl)
     (simp length-append (omega (arith, digit-1 1 (lit≤ tt), digits-3 _ (got-small _ _ (h .0)), digits-3 _ (got-small _ _ (h .1 .0)), bit-length (e .«request_endpoint_info»), bit-length (e .«request_device_identity»), bit-length (e .«request_endpoint_name»), bit-length (e .«request_product_instance_id»), bit-length (e .«request_stream_configuration»))))
 message-length (M.EndpointInfo e) t ws f =
     let h = f .fields 0 (f .some) in
-    fixed-length (info-shown e ws)
+    fixed-length (info-shown {e = e} ws refl)
     (simp length-append (omega (arith, digit-1 1 (lit≤ tt), digits-3 _ (got-small _ _ (h .0)), digits-3 _ (got-small _ _ (h .1 .0)), bit-length (e .«static_function_blocks»), bit-length (e .«supports_midi2_protocol»), bit-length (e .«supports_midi1_protocol»), bit-length (e .«supports_receiving_jr_timestamps»), bit-length (e .«supports_sending_jr_timestamps»), digits-3 _ (small (got-small _ _ (h .1 .1 .1 .1 .1 .1 .1 .0))))))
 message-length (M.DeviceIdentity e) t ws f =
     let h = f .fields 0 (f .some) in
     let g = h .1 .1 .1 in
     let v = g .1 .1 .1 .1 in
-    fixed-length (identity-shown e ws)
+    fixed-length (identity-shown {e = e} ws refl)
     (simp length-append (omega (arith, digit-1 1 (lit≤ tt), digits-3 _ (small (got-small _ _ (h .0))), digits-3 _ (small (got-small _ _ (h .1 .0))), digits-3 _ (small (got-small _ _ (h .1 .1 .0))), digits-5 _ (pair (got-small _ _ (g .1 .0))), digits-5 _ (pair (got-small _ _ (g .1 .1 .1 .0))), digits-3 _ (small (got-small _ _ (v .0))), digits-3 _ (small (got-small _ _ (v .1 .0))), digits-3 _ (small (got-small _ _ (v .1 .1 .0))), digits-3 _ (small (got-small _ _ (v .1 .1 .1 .0))))))
 message-length (M.EndpointName n) t ws f =
     let a = f .some in
@@ -112,7 +112,7 @@ message-length (M.ProductInstanceId n) t ws f =
 message-length (M.FunctionBlockInfo e) t ws f =
     let h = f .fields 0 (f .some) in
     let g = h .1 .1 .1 .1 .1 in
-    fixed-length (block-shown e ws)
+    fixed-length (block-shown {e = e} ws refl)
     (simp length-append (omega (arith, digit-1 1 (lit≤ tt), bit-length (e .active), digits-3 _ (small (got-small _ _ (h .1 .0))), hint-length (e .«ui_hint»), port-length (e .«midi1_port»), direction-length (e .direction), digits-3 _ (nibble (got-small _ _ (g .0))), digits-3 _ (got-small _ _ (g .1 .0)), digits-3 _ (got-small _ _ (g .1 .1 .0)), digits-3 _ (got-small _ _ (g .1 .1 .1 .0)))))
 message-length (M.FunctionBlockName b n) t ws f =
     let a = f .some in

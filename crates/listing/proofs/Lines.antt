@@ -9,8 +9,8 @@ use Rattle.records.specs.declared.answers.Walked.{Walked}
 use Rattle.standard.specs.Walk.{walkOf}
 use Rattle.walking.specs.Visits.{nextOf, visits}
 use Rattle.walking.proofs.Visits.{next-between, visits-more, visits-none}
-use Rattle.lines.specs.Page.{Wrote}
-use Rattle.lines.proofs.Page.{Left, left-all, left-turn, left-none}
+use Rattle.ascii_lines.specs.Page.{Wrote}
+use Rattle.ascii_lines.proofs.Page.{Left, left-all, left-turn, left-none}
 use Rattle.listing.specs.Lines.{lineOf}
 use Rattle.listing.specs.Listing.{visitLines, linesOf}
 

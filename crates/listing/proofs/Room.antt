@@ -16,7 +16,7 @@ use Rattle.counts.specs.Counts.{word}
 use Rattle.counts.specs.declared.WordNumber.{WordNumber}
 use Rattle.kinds.specs.declared.refusal.Refusal.{Refusal}
 use Rattle.kinds.specs.declared.refusal.Refusal.the-variants.{TooFewWords, NotWholePackets, TooManyPackets, WrongType, UnknownStatus, StatusDiffers, WrongFormat, BlockNumberDiffers, BadPort, BadDirection, NotUtf8, NumberTooLarge, NoSuchField, NoRoom}
-use Rattle.kinds.specs.Refusals.{numberOf, placeOf}
+use Rattle.kinds.specs.Refusals.{refusalNumber, refusalPlace}
 use Rattle.records.specs.declared.message.Message.{Message}
 use Rattle.records.specs.declared.answers.Read.{Read}
 use Rattle.records.specs.declared.answers.Read.the-variants as R
@@ -33,17 +33,17 @@ use Rattle.standard.proofs.Near.{Near, read-near, Close, frame-close}
 use Rattle.walking.specs.Visits.{nextOf, visits}
 use Rattle.walking.proofs.Stands.{walk-formed}
 use Rattle.walking.proofs.Visits.{next-between}
-use Rattle.lines.specs.Ascii.{ascii}
-use Rattle.lines.specs.Page.{Wrote}
-use Rattle.lines.specs.Numbers.{decimal}
-use Rattle.lines.proofs.Room.{decimal-length, within, first}
+use Rattle.ascii_lines.specs.Ascii.{ascii}
+use Rattle.ascii_lines.specs.Page.{Wrote}
+use Rattle.ascii_lines.specs.Numbers.{decimal}
+use Rattle.ascii_lines.proofs.Room.{decimal-length, within, first}
 use Rattle.listing.specs.Lines.{messageShown, refusalShown, lineOf, endLine, tooLong}
 use Rattle.listing.specs.Listing.{wordAt, wordsOf, visitLines, linesOf, listingOf}
 use Rattle.listing.specs.Listed.{Listed, roomy}
 use Rattle.listing.proofs.Lengths.{message-length}
 
 -- ---- the parts of a line
-number-length : (r : Refusal) → length (decimal (numberOf r)) ≤ 2
+number-length : (r : Refusal) → length (decimal (refusalNumber r)) ≤ 2
 number-length TooFewWords = decimal-length 1 1 (lit≤ tt)
 number-length NotWholePackets = decimal-length 1 2 (lit≤ tt)
 number-length TooManyPackets = decimal-length 1 3 (lit≤ tt)
@@ -59,9 +59,9 @@ number-length NumberTooLarge = decimal-length 1 12 (lit≤ tt)
 number-length NoSuchField = decimal-length 1 13 (lit≤ tt)
 number-length NoRoom = decimal-length 1 14 (lit≤ tt)
 
-refusal-length : (r : Refusal) → placeOf r ≤ 64 → length (refusalShown r) ≤ 14
+refusal-length : (r : Refusal) → refusalPlace r ≤ 64 → length (refusalShown r) ≤ 14
 unfolding each
-refusal-length r h = simp length-append (omega (arith, number-length r, decimal-length 1 (placeOf r) (omega arith)))
+refusal-length r h = simp length-append (omega (arith, number-length r, decimal-length 1 (refusalPlace r) (omega arith)))
 
 -- refusal 1, which may come at the last word
 short-length : length (refusalShown TooFewWords) ≤ 12
@@ -101,7 +101,7 @@ module _ (ws : List ℕ) (pos : ℕ) (few : length ws ≤ 8192) (inside : pos < 
   short-fits : Fits ws pos (W.Refused TooFewWords (word (length ws)))
   short-fits = simp length-append (omega (arith, pos-length, short-length))
 
-  refused-fits : (r : Refusal) (n : ℕ) → placeOf r ≤ 64 → pos + 4 ≤ n → Fits ws pos (W.Refused r (word n))
+  refused-fits : (r : Refusal) (n : ℕ) → refusalPlace r ≤ 64 → pos + 4 ≤ n → Fits ws pos (W.Refused r (word n))
   refused-fits r n h l = simp length-append (omega (arith, pos-length, refusal-length r h))
 
   other-fits : (t : ℕ) (n : ℕ) → t < 16 → pos < n → Fits ws pos (W.Other t (word (sizeOf t)) (word n))

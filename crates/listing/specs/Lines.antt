@@ -11,31 +11,40 @@ use Rattle.records.specs.declared.answers.Read.{Read}
 use Rattle.records.specs.declared.answers.Read.the-variants as R
 use Rattle.records.specs.declared.answers.Walked.{Walked}
 use Rattle.records.specs.declared.answers.Walked.the-variants as W
-use Rattle.kinds.specs.Refusals.{numberOf, placeOf}
+use Rattle.kinds.specs.Refusals.{refusalNumber, refusalPlace}
 use Rattle.kinds.specs.Layout.{Body, fixed, texts, layout, capacityIn}
 use Rattle.records.specs.Records.{kindIn, packetsIn, numbersIn}
 use Rattle.standard.specs.Walk.{part}
-use Rattle.lines.specs.Ascii.{ascii}
-use Rattle.lines.specs.Numbers.{decimal, numbers, shown}
+use Rattle.c_structs.specs.declared.numbers.Numbers.{Numbers}
+use Rattle.c_structs.specs.Crossed.{crossed}
+use Rattle.ascii_lines.specs.Ascii.{ascii}
+use Rattle.ascii_lines.specs.Numbers.{decimal, numbers, shown}
 
-unfoldable pub nameOf : Kind → List ℕ
-nameOf K.EndpointDiscovery = ascii "endpoint-discovery"
-nameOf K.EndpointInfo = ascii "endpoint-info"
-nameOf K.DeviceIdentity = ascii "device-identity"
-nameOf K.EndpointName = ascii "endpoint-name"
-nameOf K.ProductInstanceId = ascii "product-instance-id"
-nameOf K.FunctionBlockInfo = ascii "function-block-info"
-nameOf K.FunctionBlockName = ascii "function-block-name"
+unfoldable pub kindName : Kind → List ℕ
+kindName K.EndpointDiscovery = ascii "endpoint-discovery"
+kindName K.EndpointInfo = ascii "endpoint-info"
+kindName K.DeviceIdentity = ascii "device-identity"
+kindName K.EndpointName = ascii "endpoint-name"
+kindName K.ProductInstanceId = ascii "product-instance-id"
+kindName K.FunctionBlockInfo = ascii "function-block-info"
+kindName K.FunctionBlockName = ascii "function-block-name"
 
 -- the text of n packets, of a kind that has one
 abbrev textShown : Body → ℕ → List ℕ → List ℕ
 textShown fixed n ws = []
 textShown (texts t from) n ws = ascii " " ++ shown (textOf ws (capacityIn (texts t from)) n)
 
+-- a message's packets and its nine numbers as they cross, 0 past its last
+abbrev tenIn : Numbers → List ℕ
+tenIn c = c .packets ∷ c .first ∷ c .second ∷ c .third ∷ c .fourth ∷ c .fifth ∷ c .sixth ∷ c .seventh ∷ c .eighth ∷ c .ninth ∷ []
+
+abbrev pub tenOf : Message → List ℕ
+tenOf m = tenIn (crossed m)
+
 -- kind name, packets, fields in table order, text; `ws` are the message's words
 abbrev pub messageShown : Message → List ℕ → List ℕ
 messageShown m ws =
-    ascii " " ++ nameOf (kindIn m) ++ numbers (packetsIn m ∷ numbersIn m) ++ textShown (layout (kindIn m) .body) (packetsIn m) ws
+    ascii " " ++ kindName (kindIn m) ++ numbers (packetsIn m ∷ numbersIn m) ++ textShown (layout (kindIn m) .body) (packetsIn m) ws
 
 -- another type: its type and size
 abbrev pub otherShown : ℕ → WordNumber → List ℕ
@@ -43,7 +52,7 @@ otherShown t size = ascii " other" ++ numbers (t ∷ size .0 ∷ [])
 
 -- a refusal: its number and place
 abbrev pub refusalShown : Refusal → List ℕ
-refusalShown r = ascii " refused" ++ numbers (numberOf r ∷ placeOf r ∷ [])
+refusalShown r = ascii " refused" ++ numbers (refusalNumber r ∷ refusalPlace r ∷ [])
 
 -- one message, as reading answers it
 abbrev pub readShown : Read → List ℕ → List ℕ

@@ -3,7 +3,7 @@ use Prim.Native.Nat.{ℕ, _≤_}
 use mathlib.Core.Path.{_≡_}
 use mathlib.Core.List.{List}
 use lib.ListN.{length, take}
-use Rattle.lines.specs.Page.{Wrote}
+use Rattle.ascii_lines.specs.Page.{Wrote}
 use Rattle.listing.specs.Listing.{listingOf}
 
 -- a buffer of this many bytes holds any listing: 17 for each of 8,192 words, and 11 for the last line

@@ -3,7 +3,7 @@ ghost use mathlib.Core.Path.{_≡_};
 ghost use Prim.Native.Nat.{_<_};
 ghost use Rattle.standard.specs.Walk.{walkOf};
 ghost use Rattle.walking.specs.Visits.{nextOf};
-ghost use Rattle.lines.specs.Page.{Wrote};
+ghost use Rattle.ascii_lines.specs.Page.{Wrote};
 ghost use Rattle.listing.specs.Lines.{otherShown, refusalShown, answerShown, lineOf, endLine};
 ghost use Rattle.listing.specs.Listing.{linesOf};
 use crate::messages::put_message;
@@ -17,7 +17,7 @@ fn put_other(out: &mut [u8], at: usize, ump_type: u32, size: WordNumber) -> usiz
     ensures { λ r. ⌜ Wrote at (now (out .entry)) (otherShown «ump_type» size) r (now (out .exit)) ⌝ }
 {
     let ns = [ump_type as u64, size.0 as u64];
-    lines::put_named(out, at, b" other", &ns)
+    ascii_lines::put_named(out, at, b" other", &ns)
 }
 
 pub(crate) fn put_refusal(out: &mut [u8], at: usize, refusal: Refusal) -> usize
@@ -27,7 +27,7 @@ pub(crate) fn put_refusal(out: &mut [u8], at: usize, refusal: Refusal) -> usize
         refusal_number(refusal) as u64,
         refusal_place(refusal) as u64,
     ];
-    lines::put_named(out, at, b" refused", &ns)
+    ascii_lines::put_named(out, at, b" refused", &ns)
 }
 
 // What the line at a position says after it, of what the walk answers there.
@@ -54,9 +54,9 @@ fn put_line(out: &mut [u8], at: usize, words: &[u32], pos: usize, answer: Walked
     requires { ⌜ answer ≡ walkOf (now words) pos ⌝ }
     ensures { λ r. ⌜ Wrote at (now (out .entry)) (lineOf answer (now (words .entry)) pos) r (now (out .exit)) ⌝ }
 {
-    let p = lines::put_decimal(out, at, pos as u64);
+    let p = ascii_lines::put_decimal(out, at, pos as u64);
     let q = put_answer(out, p, words, pos, answer);
-    lines::put_byte(out, q, b'\n')
+    ascii_lines::put_byte(out, q, b'\n')
 }
 
 // The position after an answer.
@@ -94,6 +94,6 @@ pub(crate) fn put_end(out: &mut [u8], at: usize, words: usize, leftover: usize) 
     ensures { λ r. ⌜ Wrote at (now (out .entry)) (endLine words leftover) r (now (out .exit)) ⌝ }
 {
     let ns = [words as u64, leftover as u64];
-    let p = lines::put_named(out, at, b"end", &ns);
-    lines::put_byte(out, p, b'\n')
+    let p = ascii_lines::put_named(out, at, b"end", &ns);
+    ascii_lines::put_byte(out, p, b'\n')
 }

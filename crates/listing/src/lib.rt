@@ -2,7 +2,6 @@
 ghost use Rattle.listing.specs.Listed.{Listed};
 
 mod answers;
-mod codes;
 mod messages;
 pub mod one;
 mod shown;
@@ -17,7 +16,7 @@ pub fn list(bytes: &[u8], out: &mut [u8]) -> usize
     ensures { λ r. ⌜ Listed (now (bytes .entry)) (now (out .entry)) r (now (out .exit)) ⌝ }
 {
     if 32768 < bytes.len() {
-        return lines::put_text(out, 0, b"input too long\n");
+        return ascii_lines::put_text(out, 0, b"input too long\n");
     }
     let mut words = [0u32; 8192];
     let n = read_words(bytes, &mut words);

@@ -1,6 +1,6 @@
 // One message alone: read, and put as a line of the listing says it, with no position before it.
 ghost use Rattle.standard.specs.Reading.{readOf};
-ghost use Rattle.lines.specs.Page.{Wrote};
+ghost use Rattle.ascii_lines.specs.Page.{Wrote};
 ghost use Rattle.listing.specs.Lines.{readShown};
 use crate::answers::put_refusal;
 use crate::messages::put_message;

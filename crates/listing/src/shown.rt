@@ -4,9 +4,9 @@ ghost use Prim.Native.Nat.{_-_, _/_, _<_};
 ghost use lib.ListN.{length};
 ghost use Rattle.laws.specs.Lists.{each};
 ghost use Rattle.text.specs.Bytes.{textOf};
-ghost use Rattle.lines.specs.Ascii.{ascii};
-ghost use Rattle.lines.specs.Page.{Wrote};
-ghost use Rattle.lines.specs.Numbers.{hexByte, shown};
+ghost use Rattle.ascii_lines.specs.Ascii.{ascii};
+ghost use Rattle.ascii_lines.specs.Page.{Wrote};
+ghost use Rattle.ascii_lines.specs.Numbers.{hexByte, shown};
 use text::TextStep;
 use text::by_byte;
 
@@ -25,7 +25,7 @@ fn put_bytes(out: &mut [u8], at: usize, words: &[u32], offset: usize) -> usize
                 return p;
             }
             TextStep::Byte(byte) => {
-                p = lines::put_hex(out, p, byte);
+                p = ascii_lines::put_hex(out, p, byte);
             }
         }
         place = stepped.place;
@@ -37,11 +37,11 @@ pub(crate) fn put_shown(out: &mut [u8], at: usize, words: &[u32], offset: usize)
     requires { ⌜ offset < 14 ⌝ }
     ensures { λ r. ⌜ Wrote at (now (out .entry)) (ascii " " ++ shown (textOf (now (words .entry)) (14 - offset) (length (now (words .entry)) / 4))) r (now (out .exit)) ⌝ }
 {
-    let p = lines::put_byte(out, at, b' ');
+    let p = ascii_lines::put_byte(out, at, b' ');
     let first = by_byte::step(words, offset, by_byte::start());
     let found = first.step;
     match found {
-        TextStep::End => lines::put_byte(out, p, b'-'),
+        TextStep::End => ascii_lines::put_byte(out, p, b'-'),
         TextStep::Byte(_) => put_bytes(out, p, words, offset),
     }
 }

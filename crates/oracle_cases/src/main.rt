@@ -20,11 +20,11 @@ fn wide(byte: u8) -> usize
 
 // A space, and a word's eight digits in lower-case hex.
 fn put_word(out: &mut [u8], at: usize, word: u32) -> usize {
-    let a = lines::put_byte(out, at, b' ');
-    let b = lines::put_hex(out, a, (word / 0x1000000) as u8);
-    let c = lines::put_hex(out, b, (word / 0x10000 % 0x100) as u8);
-    let d = lines::put_hex(out, c, (word / 0x100 % 0x100) as u8);
-    lines::put_hex(out, d, (word % 0x100) as u8)
+    let a = ascii_lines::put_byte(out, at, b' ');
+    let b = ascii_lines::put_hex(out, a, (word / 0x1000000) as u8);
+    let c = ascii_lines::put_hex(out, b, (word / 0x10000 % 0x100) as u8);
+    let d = ascii_lines::put_hex(out, c, (word / 0x100 % 0x100) as u8);
+    ascii_lines::put_hex(out, d, (word % 0x100) as u8)
 }
 
 fn put_words(out: &mut [u8], at: usize, words: &[u32]) -> usize {
@@ -39,7 +39,7 @@ fn put_words(out: &mut [u8], at: usize, words: &[u32]) -> usize {
 
 // The Rust has sentences for refusals and no numbers, so none is printed.
 fn put_refused(out: &mut [u8], at: usize) -> usize {
-    lines::put_text(out, at, b" refused")
+    ascii_lines::put_text(out, at, b" refused")
 }
 
 // What the listing says of the message.
@@ -72,7 +72,7 @@ fn put_set(out: &mut [u8], at: usize, words: &mut [u32], asked: u8, data: &[u8])
     let answer = set(words, asked, data);
     match answer {
         Answer::Done => {
-            let p = lines::put_text(out, at, b" done");
+            let p = ascii_lines::put_text(out, at, b" done");
             put_words(out, p, words)
         }
         Answer::Refused(_) => put_refused(out, at),
@@ -94,7 +94,7 @@ fn put_case(out: &mut [u8], at: usize, asked: u8, bytes: &[u8], data: &[u8]) -> 
         return at;
     }
     let p = put_answer(out, at, &mut words[0..n], asked, data);
-    lines::put_byte(out, p, b'\n')
+    ascii_lines::put_byte(out, p, b'\n')
 }
 
 // The lines of all cases.

@@ -71,8 +71,8 @@ fn year(pool: &[u8], tally: &mut [u64]) {
 
 // A line: what was run, and its tally.
 fn put_tally(out: &mut [u8], at: usize, name: &[u8], tally: &[u64]) -> usize {
-    let p = lines::put_named(out, at, name, tally);
-    lines::put_byte(out, p, b'\n')
+    let p = ascii_lines::put_named(out, at, name, tally);
+    ascii_lines::put_byte(out, p, b'\n')
 }
 
 // The line of a kind in buffers of each size, and its tally added to that of all.
@@ -121,7 +121,7 @@ fn put_block(out: &mut [u8], at: usize, pool: &[u8], all: &mut [u64]) -> usize {
 
 fn put_all(out: &mut [u8], pool: &[u8]) -> usize {
     let mut all = [0u64; 10];
-    let head = lines::put_text(
+    let head = ascii_lines::put_text(
         out,
         0,
         b"run made accepted refused differed by-3 by-11 by-12 by-13 by-14 by-others\n",

@@ -19,7 +19,7 @@ fn put_case(bytes: &[u8], out: &mut [u8], at: usize) -> usize {
         return at;
     }
     let p = listing::one::show(&words[0..n], out, at);
-    lines::put_byte(out, p, b'\n')
+    ascii_lines::put_byte(out, p, b'\n')
 }
 
 // The lines of all cases.

@@ -24,16 +24,16 @@ use Rattle.records.proofs.message.Message.{the-type}
 use Rattle.records.proofs.Settings.{lacking}
 
 -- the place of a kind's record among the variants
-abbrev placeOf : Kind → ℕ
-placeOf K.EndpointDiscovery = 0
-placeOf K.EndpointInfo = 1
-placeOf K.DeviceIdentity = 2
-placeOf K.EndpointName = 3
-placeOf K.ProductInstanceId = 4
-placeOf K.FunctionBlockInfo = 5
-placeOf K.FunctionBlockName = 6
+abbrev variantOf : Kind → ℕ
+variantOf K.EndpointDiscovery = 0
+variantOf K.EndpointInfo = 1
+variantOf K.DeviceIdentity = 2
+variantOf K.EndpointName = 3
+variantOf K.ProductInstanceId = 4
+variantOf K.FunctionBlockInfo = 5
+variantOf K.FunctionBlockName = 6
 
-place-is : (m : Message) → tagOf the-type m ≡ placeOf (kindIn m)
+place-is : (m : Message) → tagOf the-type m ≡ variantOf (kindIn m)
 place-is (M.EndpointDiscovery e) = refl
 place-is (M.EndpointInfo e) = refl
 place-is (M.DeviceIdentity e) = refl
@@ -52,7 +52,7 @@ but K.ProductInstanceId = 0 ∷ 1 ∷ 2 ∷ 3 ∷ 5 ∷ 6 ∷ []
 but K.FunctionBlockInfo = 0 ∷ 1 ∷ 2 ∷ 3 ∷ 4 ∷ 6 ∷ []
 but K.FunctionBlockName = 0 ∷ 1 ∷ 2 ∷ 3 ∷ 4 ∷ 5 ∷ []
 
-but-lacks : (k : Kind) → T (not (hasKey (but k) (placeOf k)))
+but-lacks : (k : Kind) → T (not (hasKey (but k) (variantOf k)))
 but-lacks K.EndpointDiscovery = tt
 but-lacks K.EndpointInfo = tt
 but-lacks K.DeviceIdentity = tt
@@ -62,8 +62,8 @@ but-lacks K.FunctionBlockInfo = tt
 but-lacks K.FunctionBlockName = tt
 
 -- a record whose place is among these is of no kind whose place is not
-other-kind : (ks : List ℕ) (m : Message) (k : Kind) → OneOf ks (tagOf the-type m) → T (not (hasKey ks (placeOf k))) → kindIn m ≡ k → ⊥
-other-kind ks m k o h e = miss ks (placeOf k) h (subst (OneOf ks) (place-is m ∙ ap placeOf e) o)
+other-kind : (ks : List ℕ) (m : Message) (k : Kind) → OneOf ks (tagOf the-type m) → T (not (hasKey ks (variantOf k))) → kindIn m ≡ k → ⊥
+other-kind ks m k o h e = miss ks (variantOf k) h (subst (OneOf ks) (place-is m ∙ ap variantOf e) o)
 
 -- a setting of a field that another kind has is refused
 pub other : (k : Kind) (s : Setting) (m : Message) → none (slotsOf (fieldIn s) (layout k .fields)) ≡ false → OneOf (but k) (tagOf the-type m) → edited m (A.Refused NoSuchField) ≡ setRecord s m

@@ -13,7 +13,7 @@ use Rattle.records.specs.declared.answers.MessageSize.{MessageSize}
 use Rattle.records.specs.declared.answers.MessageSize.the-variants as S
 use Rattle.records.specs.declared.answers.Answer.{Answer}
 use Rattle.records.specs.declared.answers.Answer.the-variants as A
-use Rattle.kinds.specs.Refusals.{numberOf, placeOf}
+use Rattle.kinds.specs.Refusals.{refusalNumber, refusalPlace}
 use Rattle.kinds.specs.Layout.{layout}
 use Rattle.records.specs.Records.{kindIn, packetsIn, numbersIn}
 
@@ -26,7 +26,7 @@ abbrev pub accepted : List ℕ → Said
 accepted xs = record { refusal = 0; place = 0; values = xs }
 
 abbrev pub refused : Refusal → List ℕ → Said
-refused r xs = record { refusal = numberOf r; place = placeOf r; values = xs }
+refused r xs = record { refusal = refusalNumber r; place = refusalPlace r; values = xs }
 
 -- a message: its status, its packets, and its fields in the table's order
 abbrev saidMessage : Message → List ℕ

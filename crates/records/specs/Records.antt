@@ -38,11 +38,11 @@ packetsIn (M.FunctionBlockName b n) = n .0
 
 -- ---- from values to a record
 -- the flag, the number, and number i of a field
-abbrev flagOf : (Field → List ℕ) → Flag → Bool
-flagOf v f = eqb (getD (v (Field.flag f)) 0 0) 1
+abbrev flagFrom : (Field → List ℕ) → Flag → Bool
+flagFrom v f = eqb (getD (v (Field.flag f)) 0 0) 1
 
-abbrev numberOf : (Field → List ℕ) → Number → ℕ
-numberOf v n = getD (v (Field.number n)) 0 0
+abbrev numberFrom : (Field → List ℕ) → Number → ℕ
+numberFrom v n = getD (v (Field.number n)) 0 0
 
 abbrev nthOf : (Field → List ℕ) → Field → ℕ → ℕ
 nthOf v f i = getD (v f) i 0
@@ -52,25 +52,25 @@ unfoldable pub recordOf : Kind → ℕ → (Field → List ℕ) → Message
 recordOf K.EndpointDiscovery n v =
     M.EndpointDiscovery
     (record {
-      «ump_version_major» = numberOf v Number.discovery-version-major;
-      «ump_version_minor» = numberOf v Number.discovery-version-minor;
-      «request_endpoint_info» = flagOf v Flag.request-endpoint-info;
-      «request_device_identity» = flagOf v Flag.request-device-identity;
-      «request_endpoint_name» = flagOf v Flag.request-endpoint-name;
-      «request_product_instance_id» = flagOf v Flag.request-product-instance-id;
-      «request_stream_configuration» = flagOf v Flag.request-stream-configuration;
+      «ump_version_major» = numberFrom v Number.discovery-version-major;
+      «ump_version_minor» = numberFrom v Number.discovery-version-minor;
+      «request_endpoint_info» = flagFrom v Flag.request-endpoint-info;
+      «request_device_identity» = flagFrom v Flag.request-device-identity;
+      «request_endpoint_name» = flagFrom v Flag.request-endpoint-name;
+      «request_product_instance_id» = flagFrom v Flag.request-product-instance-id;
+      «request_stream_configuration» = flagFrom v Flag.request-stream-configuration;
     })
 recordOf K.EndpointInfo n v =
     M.EndpointInfo
     (record {
-      «ump_version_major» = numberOf v Number.info-version-major;
-      «ump_version_minor» = numberOf v Number.info-version-minor;
-      «static_function_blocks» = flagOf v Flag.static-function-blocks;
-      «supports_midi2_protocol» = flagOf v Flag.supports-midi2-protocol;
-      «supports_midi1_protocol» = flagOf v Flag.supports-midi1-protocol;
-      «supports_receiving_jr_timestamps» = flagOf v Flag.supports-receiving-jr-timestamps;
-      «supports_sending_jr_timestamps» = flagOf v Flag.supports-sending-jr-timestamps;
-      «number_of_function_blocks» = numberOf v Number.number-of-function-blocks;
+      «ump_version_major» = numberFrom v Number.info-version-major;
+      «ump_version_minor» = numberFrom v Number.info-version-minor;
+      «static_function_blocks» = flagFrom v Flag.static-function-blocks;
+      «supports_midi2_protocol» = flagFrom v Flag.supports-midi2-protocol;
+      «supports_midi1_protocol» = flagFrom v Flag.supports-midi1-protocol;
+      «supports_receiving_jr_timestamps» = flagFrom v Flag.supports-receiving-jr-timestamps;
+      «supports_sending_jr_timestamps» = flagFrom v Flag.supports-sending-jr-timestamps;
+      «number_of_function_blocks» = numberFrom v Number.number-of-function-blocks;
     })
 recordOf K.DeviceIdentity n v =
     M.DeviceIdentity
@@ -96,17 +96,17 @@ recordOf K.ProductInstanceId n v = M.ProductInstanceId (packet n)
 recordOf K.FunctionBlockInfo n v =
     M.FunctionBlockInfo
     (record {
-      active = flagOf v Flag.active;
-      «function_block_number» = numberOf v Number.function-block-number;
+      active = flagFrom v Flag.active;
+      «function_block_number» = numberFrom v Number.function-block-number;
       «ui_hint» = hintOf (nthOf v Field.ui-hint 0);
       «midi1_port» = portOf (nthOf v Field.midi1-port 0);
       direction = directionOf (nthOf v Field.direction 0);
-      «first_group» = numberOf v Number.first-group;
-      «number_of_groups_spanned» = numberOf v Number.number-of-groups-spanned;
-      «midi_ci_version» = numberOf v Number.midi-ci-version;
-      «max_number_of_midi_ci_streams» = numberOf v Number.max-number-of-midi-ci-streams;
+      «first_group» = numberFrom v Number.first-group;
+      «number_of_groups_spanned» = numberFrom v Number.number-of-groups-spanned;
+      «midi_ci_version» = numberFrom v Number.midi-ci-version;
+      «max_number_of_midi_ci_streams» = numberFrom v Number.max-number-of-midi-ci-streams;
     })
-recordOf K.FunctionBlockName n v = M.FunctionBlockName (numberOf v Number.function-block) (packet n)
+recordOf K.FunctionBlockName n v = M.FunctionBlockName (numberFrom v Number.function-block) (packet n)
 
 -- ---- from a record to values
 -- a field with its value

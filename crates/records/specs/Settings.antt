@@ -16,6 +16,8 @@ use Rattle.records.specs.declared.answers.Answer.{Answer}
 use Rattle.records.specs.declared.answers.Answer.the-variants as A
 use Rattle.records.specs.declared.answers.Edited.{Edited}
 use Rattle.kinds.specs.Fields.{Number, Text, Field, Setting, fieldIn, valueIn, same}
+use Rattle.fields.specs.declared.NumberName.{NumberName}
+use Rattle.fields.specs.declared.NumberName.the-variants as N
 use Rattle.kinds.specs.Layout.{Part, layout, none, slotsOf, parts}
 use Rattle.records.specs.Records.{kindIn, packetsIn, recordOf, valuesOf}
 
@@ -52,6 +54,19 @@ minorOf k = pick (eqb (layout k .status) 0x00) Number.discovery-version-minor Nu
 -- the name: of status 0x12 the function block's, else the endpoint's
 abbrev pub nameOf : Kind → Text
 nameOf k = pick (eqb (layout k .status) 0x12) Text.function-block-name Text.endpoint-name
+
+-- a number of a record by its name: a version is that of the record's own kind
+abbrev pub numberIn : NumberName → ℕ → Message → Setting
+numberIn N.DiscoveryVersionMajor x m = Setting.number (majorOf (kindIn m)) x
+numberIn N.DiscoveryVersionMinor x m = Setting.number (minorOf (kindIn m)) x
+numberIn N.InfoVersionMajor x m = Setting.number (majorOf (kindIn m)) x
+numberIn N.InfoVersionMinor x m = Setting.number (minorOf (kindIn m)) x
+numberIn N.NumberOfFunctionBlocks x m = Setting.number Number.number-of-function-blocks x
+numberIn N.FunctionBlockNumber x m = Setting.number Number.function-block-number x
+numberIn N.FirstGroup x m = Setting.number Number.first-group x
+numberIn N.NumberOfGroupsSpanned x m = Setting.number Number.number-of-groups-spanned x
+numberIn N.MidiCiVersion x m = Setting.number Number.midi-ci-version x
+numberIn N.MaxNumberOfMidiCiStreams x m = Setting.number Number.max-number-of-midi-ci-streams x
 
 -- ---- what the settings' own steps say
 -- each number is one of seven bits

@@ -5,6 +5,8 @@ use crate::answers::no_such_field;
 use crate::answers::then;
 use crate::answers::too_large;
 use crate::message::Message;
+use crate::named::then_pair;
+use fields::PairName;
 ghost use mathlib.Core.Path.{_≡_};
 ghost use mathlib.Core.Bool.{not};
 ghost use mathlib.Core.List.{[], _∷_};
@@ -119,15 +121,13 @@ impl Edited {
     pub fn set_device_family(self, number: u32) -> Edited
         ensures { λ r. ⌜ r ≡ setEdited (Setting.pair Pair.device-family number) self ⌝ }
     {
-        let m = self.message;
-        then(self, m.set_device_family(number))
+        then_pair(self, PairName::DeviceFamily, number)
     }
 
     pub fn set_device_family_model_number(self, number: u32) -> Edited
         ensures { λ r. ⌜ r ≡ setEdited (Setting.pair Pair.device-family-model-number number) self ⌝ }
     {
-        let m = self.message;
-        then(self, m.set_device_family_model_number(number))
+        then_pair(self, PairName::DeviceFamilyModelNumber, number)
     }
 
     pub fn set_software_version(self, first: u32, second: u32, third: u32, fourth: u32) -> Edited

@@ -2,8 +2,9 @@
 use crate::answers::Edited;
 use crate::answers::done;
 use crate::answers::no_such_field;
-use crate::answers::then;
 use crate::message::Message;
+use crate::named::then_flag;
+use fields::FlagName;
 ghost use mathlib.Core.Path.{_≡_};
 ghost use Rattle.kinds.specs.Fields.{Flag, Setting};
 ghost use Rattle.records.specs.Settings.{setRecord, setEdited};
@@ -81,35 +82,30 @@ impl Edited {
     pub fn set_request_endpoint_info(self, on: bool) -> Edited
         ensures { λ r. ⌜ r ≡ setEdited (Setting.flag Flag.request-endpoint-info on) self ⌝ }
     {
-        let m = self.message;
-        then(self, m.set_request_endpoint_info(on))
+        then_flag(self, FlagName::RequestEndpointInfo, on)
     }
 
     pub fn set_request_device_identity(self, on: bool) -> Edited
         ensures { λ r. ⌜ r ≡ setEdited (Setting.flag Flag.request-device-identity on) self ⌝ }
     {
-        let m = self.message;
-        then(self, m.set_request_device_identity(on))
+        then_flag(self, FlagName::RequestDeviceIdentity, on)
     }
 
     pub fn set_request_endpoint_name(self, on: bool) -> Edited
         ensures { λ r. ⌜ r ≡ setEdited (Setting.flag Flag.request-endpoint-name on) self ⌝ }
     {
-        let m = self.message;
-        then(self, m.set_request_endpoint_name(on))
+        then_flag(self, FlagName::RequestEndpointName, on)
     }
 
     pub fn set_request_product_instance_id(self, on: bool) -> Edited
         ensures { λ r. ⌜ r ≡ setEdited (Setting.flag Flag.request-product-instance-id on) self ⌝ }
     {
-        let m = self.message;
-        then(self, m.set_request_product_instance_id(on))
+        then_flag(self, FlagName::RequestProductInstanceId, on)
     }
 
     pub fn set_request_stream_configuration(self, on: bool) -> Edited
         ensures { λ r. ⌜ r ≡ setEdited (Setting.flag Flag.request-stream-configuration on) self ⌝ }
     {
-        let m = self.message;
-        then(self, m.set_request_stream_configuration(on))
+        then_flag(self, FlagName::RequestStreamConfiguration, on)
     }
 }

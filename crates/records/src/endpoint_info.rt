@@ -2,9 +2,12 @@
 use crate::answers::Edited;
 use crate::answers::done;
 use crate::answers::no_such_field;
-use crate::answers::then;
 use crate::answers::too_large;
 use crate::message::Message;
+use crate::named::then_flag;
+use crate::named::then_number;
+use fields::FlagName;
+use fields::NumberName;
 ghost use mathlib.Core.Path.{_≡_};
 ghost use Rattle.kinds.specs.Fields.{Flag, Number, Setting};
 ghost use Rattle.records.specs.Settings.{setRecord, setEdited};
@@ -97,42 +100,36 @@ impl Edited {
     pub fn set_static_function_blocks(self, on: bool) -> Edited
         ensures { λ r. ⌜ r ≡ setEdited (Setting.flag Flag.static-function-blocks on) self ⌝ }
     {
-        let m = self.message;
-        then(self, m.set_static_function_blocks(on))
+        then_flag(self, FlagName::StaticFunctionBlocks, on)
     }
 
     pub fn set_supports_midi2_protocol(self, on: bool) -> Edited
         ensures { λ r. ⌜ r ≡ setEdited (Setting.flag Flag.supports-midi2-protocol on) self ⌝ }
     {
-        let m = self.message;
-        then(self, m.set_supports_midi2_protocol(on))
+        then_flag(self, FlagName::SupportsMidi2Protocol, on)
     }
 
     pub fn set_supports_midi1_protocol(self, on: bool) -> Edited
         ensures { λ r. ⌜ r ≡ setEdited (Setting.flag Flag.supports-midi1-protocol on) self ⌝ }
     {
-        let m = self.message;
-        then(self, m.set_supports_midi1_protocol(on))
+        then_flag(self, FlagName::SupportsMidi1Protocol, on)
     }
 
     pub fn set_supports_receiving_jr_timestamps(self, on: bool) -> Edited
         ensures { λ r. ⌜ r ≡ setEdited (Setting.flag Flag.supports-receiving-jr-timestamps on) self ⌝ }
     {
-        let m = self.message;
-        then(self, m.set_supports_receiving_jr_timestamps(on))
+        then_flag(self, FlagName::SupportsReceivingJrTimestamps, on)
     }
 
     pub fn set_supports_sending_jr_timestamps(self, on: bool) -> Edited
         ensures { λ r. ⌜ r ≡ setEdited (Setting.flag Flag.supports-sending-jr-timestamps on) self ⌝ }
     {
-        let m = self.message;
-        then(self, m.set_supports_sending_jr_timestamps(on))
+        then_flag(self, FlagName::SupportsSendingJrTimestamps, on)
     }
 
     pub fn set_number_of_function_blocks(self, number: u32) -> Edited
         ensures { λ r. ⌜ r ≡ setEdited (Setting.number Number.number-of-function-blocks number) self ⌝ }
     {
-        let m = self.message;
-        then(self, m.set_number_of_function_blocks(number))
+        then_number(self, NumberName::NumberOfFunctionBlocks, number)
     }
 }

@@ -5,6 +5,10 @@ use crate::answers::no_such_field;
 use crate::answers::then;
 use crate::answers::too_large;
 use crate::message::Message;
+use crate::named::then_flag;
+use crate::named::then_number;
+use fields::FlagName;
+use fields::NumberName;
 use kinds::choices::Direction;
 use kinds::choices::Midi1Port;
 use kinds::choices::UiHint;
@@ -171,15 +175,13 @@ impl Edited {
     pub fn set_active(self, on: bool) -> Edited
         ensures { λ r. ⌜ r ≡ setEdited (Setting.flag Flag.active on) self ⌝ }
     {
-        let m = self.message;
-        then(self, m.set_active(on))
+        then_flag(self, FlagName::Active, on)
     }
 
     pub fn set_function_block_number(self, number: u32) -> Edited
         ensures { λ r. ⌜ r ≡ setEdited (Setting.number Number.function-block-number number) self ⌝ }
     {
-        let m = self.message;
-        then(self, m.set_function_block_number(number))
+        then_number(self, NumberName::FunctionBlockNumber, number)
     }
 
     pub fn set_ui_hint(self, hint: UiHint) -> Edited
@@ -206,28 +208,24 @@ impl Edited {
     pub fn set_first_group(self, number: u32) -> Edited
         ensures { λ r. ⌜ r ≡ setEdited (Setting.number Number.first-group number) self ⌝ }
     {
-        let m = self.message;
-        then(self, m.set_first_group(number))
+        then_number(self, NumberName::FirstGroup, number)
     }
 
     pub fn set_number_of_groups_spanned(self, number: u32) -> Edited
         ensures { λ r. ⌜ r ≡ setEdited (Setting.number Number.number-of-groups-spanned number) self ⌝ }
     {
-        let m = self.message;
-        then(self, m.set_number_of_groups_spanned(number))
+        then_number(self, NumberName::NumberOfGroupsSpanned, number)
     }
 
     pub fn set_midi_ci_version(self, number: u32) -> Edited
         ensures { λ r. ⌜ r ≡ setEdited (Setting.number Number.midi-ci-version number) self ⌝ }
     {
-        let m = self.message;
-        then(self, m.set_midi_ci_version(number))
+        then_number(self, NumberName::MidiCiVersion, number)
     }
 
     pub fn set_max_number_of_midi_ci_streams(self, number: u32) -> Edited
         ensures { λ r. ⌜ r ≡ setEdited (Setting.number Number.max-number-of-midi-ci-streams number) self ⌝ }
     {
-        let m = self.message;
-        then(self, m.set_max_number_of_midi_ci_streams(number))
+        then_number(self, NumberName::MaxNumberOfMidiCiStreams, number)
     }
 }

@@ -7,6 +7,7 @@ pub mod endpoint_info;
 pub mod function_block_info;
 pub mod function_block_name;
 pub mod message;
+pub mod named;
 pub mod packet;
 pub mod text;
 pub mod ump_version;

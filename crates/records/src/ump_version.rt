@@ -2,9 +2,10 @@
 use crate::answers::Edited;
 use crate::answers::done;
 use crate::answers::no_such_field;
-use crate::answers::then;
 use crate::answers::too_large;
 use crate::message::Message;
+use crate::named::then_number;
+use fields::NumberName;
 ghost use mathlib.Core.Path.{_≡_};
 ghost use Rattle.kinds.specs.Fields.{Setting};
 ghost use Rattle.records.specs.Records.{kindIn};
@@ -64,14 +65,12 @@ impl Edited {
     pub fn set_ump_version_major(self, number: u32) -> Edited
         ensures { λ r. ⌜ r ≡ setEdited (Setting.number (majorOf (kindIn (self .message))) number) self ⌝ }
     {
-        let m = self.message;
-        then(self, m.set_ump_version_major(number))
+        then_number(self, NumberName::InfoVersionMajor, number)
     }
 
     pub fn set_ump_version_minor(self, number: u32) -> Edited
         ensures { λ r. ⌜ r ≡ setEdited (Setting.number (minorOf (kindIn (self .message))) number) self ⌝ }
     {
-        let m = self.message;
-        then(self, m.set_ump_version_minor(number))
+        then_number(self, NumberName::InfoVersionMinor, number)
     }
 }

@@ -1,3 +1,4 @@
 pub mod Settled
 pub mod Owned
 pub mod Slots
+pub mod Places

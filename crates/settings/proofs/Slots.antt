@@ -23,8 +23,8 @@ use Rattle.records.specs.Settings.{tooLarge}
 use Rattle.standard.specs.Heads.{packetsOf}
 use Rattle.standard.specs.Walk.{walkOf}
 use Rattle.standard.specs.Words.{left, unchanged, missing, answerTo, actIn, setOn}
-use Rattle.filling.specs.Filling.{putIn, fillSeptets, areSeptets, putIns}
-use Rattle.filling.proofs.Puts.{inWord, ins-put}
+use Rattle.buffer.specs.Filling.{putIn, fillSeptets, areSeptets, putIns}
+use Rattle.buffer.proofs.Puts.{inWord, ins-put}
 use Rattle.settings.specs.declared.target.Target.{Target}
 use Rattle.settings.specs.declared.target.Target.the-variants as T
 use Rattle.settings.specs.Target.{targetOf, settled}

@@ -8,7 +8,7 @@ use Rattle.kinds.specs.declared.refusal.Refusal.the-variants.{NumberTooLarge}
 use Rattle.records.specs.declared.answers.Answer.the-variants as A
 use Rattle.standard.specs.Walk.{walkOf}
 use Rattle.standard.specs.Words.{Left, left, unchanged}
-use Rattle.filling.specs.Filling.{putIn, fillSeptets, areSeptets}
+use Rattle.buffer.specs.Filling.{putIn, fillSeptets, areSeptets}
 use Rattle.settings.specs.Target.{targetOf, settled}
 
 -- refusal 12 where a number does not fit, else these words

@@ -8,6 +8,8 @@ ghost use mathlib.Core.Path.{_≡_};
 ghost use Rattle.kinds.specs.Fields.{Pair, Setting};
 ghost use Rattle.standard.specs.Words.{setOn};
 use crate::fixed::set_septets;
+use crate::named::set_pair;
+use fields::PairName;
 use records::answers::Answer;
 
 const STATUS: u32 = 0x02;
@@ -23,14 +25,14 @@ pub fn set_device_family(words: &mut [u32], family: u32) -> Answer
     ensures answer { λ r. ⌜ r ≡ setOn (Setting.pair Pair.device-family family) (now (words .entry)) .answer ⌝ }
     ensures buffer { λ r. ⌜ now (words .exit) ≡ setOn (Setting.pair Pair.device-family family) (now (words .entry)) .words ⌝ }
 {
-    set_septets(words, STATUS, 2, 0, &[family % 128, family / 128])
+    set_pair(words, PairName::DeviceFamily, family)
 }
 
 pub fn set_device_family_model_number(words: &mut [u32], model: u32) -> Answer
     ensures answer { λ r. ⌜ r ≡ setOn (Setting.pair Pair.device-family-model-number model) (now (words .entry)) .answer ⌝ }
     ensures buffer { λ r. ⌜ now (words .exit) ≡ setOn (Setting.pair Pair.device-family-model-number model) (now (words .entry)) .words ⌝ }
 {
-    set_septets(words, STATUS, 2, 2, &[model % 128, model / 128])
+    set_pair(words, PairName::DeviceFamilyModelNumber, model)
 }
 
 pub fn set_software_version(words: &mut [u32], a: u32, b: u32, c: u32, d: u32) -> Answer

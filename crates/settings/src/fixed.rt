@@ -3,10 +3,10 @@ ghost use mathlib.Core.Path.{_≡_};
 ghost use Rattle.settings.specs.Fixed.{slotOn, septetsOn};
 use crate::target::Target;
 use crate::target::find_target;
-use filling::fields::put_field;
-use filling::fields::too_large;
-use filling::septets::are_septets;
-use filling::septets::put_septets;
+use buffer::fields::put_field;
+use buffer::fields::too_large;
+use buffer::septets::are_septets;
+use buffer::septets::put_septets;
 use kinds::refusal::Refusal;
 use records::answers::Answer;
 

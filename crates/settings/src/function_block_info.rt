@@ -6,6 +6,10 @@ ghost use mathlib.Core.Path.{_≡_};
 ghost use Rattle.kinds.specs.Fields.{Flag, Number, Setting};
 ghost use Rattle.standard.specs.Words.{setOn};
 use crate::fixed::set_slot;
+use crate::named::set_flag;
+use crate::named::set_number;
+use fields::FlagName;
+use fields::NumberName;
 use kinds::choices::Direction;
 use kinds::choices::Midi1Port;
 use kinds::choices::UiHint;
@@ -20,14 +24,14 @@ pub fn set_active(words: &mut [u32], on: bool) -> Answer
     ensures answer { λ r. ⌜ r ≡ setOn (Setting.flag Flag.active on) (now (words .entry)) .answer ⌝ }
     ensures buffer { λ r. ⌜ now (words .exit) ≡ setOn (Setting.flag Flag.active on) (now (words .entry)) .words ⌝ }
 {
-    set_slot(words, STATUS, 0, 15, 1, on as u32)
+    set_flag(words, FlagName::Active, on)
 }
 
 pub fn set_function_block_number(words: &mut [u32], number: u32) -> Answer
     ensures answer { λ r. ⌜ r ≡ setOn (Setting.number Number.function-block-number number) (now (words .entry)) .answer ⌝ }
     ensures buffer { λ r. ⌜ now (words .exit) ≡ setOn (Setting.number Number.function-block-number number) (now (words .entry)) .words ⌝ }
 {
-    set_slot(words, STATUS, 0, 8, 7, number)
+    set_number(words, NumberName::FunctionBlockNumber, number)
 }
 
 pub fn set_ui_hint(words: &mut [u32], hint: UiHint) -> Answer
@@ -55,26 +59,26 @@ pub fn set_first_group(words: &mut [u32], group: u32) -> Answer
     ensures answer { λ r. ⌜ r ≡ setOn (Setting.number Number.first-group group) (now (words .entry)) .answer ⌝ }
     ensures buffer { λ r. ⌜ now (words .exit) ≡ setOn (Setting.number Number.first-group group) (now (words .entry)) .words ⌝ }
 {
-    set_slot(words, STATUS, 1, 24, 4, group)
+    set_number(words, NumberName::FirstGroup, group)
 }
 
 pub fn set_number_of_groups_spanned(words: &mut [u32], number: u32) -> Answer
     ensures answer { λ r. ⌜ r ≡ setOn (Setting.number Number.number-of-groups-spanned number) (now (words .entry)) .answer ⌝ }
     ensures buffer { λ r. ⌜ now (words .exit) ≡ setOn (Setting.number Number.number-of-groups-spanned number) (now (words .entry)) .words ⌝ }
 {
-    set_slot(words, STATUS, 1, 16, 8, number)
+    set_number(words, NumberName::NumberOfGroupsSpanned, number)
 }
 
 pub fn set_midi_ci_version(words: &mut [u32], version: u32) -> Answer
     ensures answer { λ r. ⌜ r ≡ setOn (Setting.number Number.midi-ci-version version) (now (words .entry)) .answer ⌝ }
     ensures buffer { λ r. ⌜ now (words .exit) ≡ setOn (Setting.number Number.midi-ci-version version) (now (words .entry)) .words ⌝ }
 {
-    set_slot(words, STATUS, 1, 8, 8, version)
+    set_number(words, NumberName::MidiCiVersion, version)
 }
 
 pub fn set_max_number_of_midi_ci_streams(words: &mut [u32], number: u32) -> Answer
     ensures answer { λ r. ⌜ r ≡ setOn (Setting.number Number.max-number-of-midi-ci-streams number) (now (words .entry)) .answer ⌝ }
     ensures buffer { λ r. ⌜ now (words .exit) ≡ setOn (Setting.number Number.max-number-of-midi-ci-streams number) (now (words .entry)) .words ⌝ }
 {
-    set_slot(words, STATUS, 1, 0, 8, number)
+    set_number(words, NumberName::MaxNumberOfMidiCiStreams, number)
 }

@@ -4,4 +4,5 @@ pub mod endpoint_discovery;
 pub mod endpoint_info;
 pub mod fixed;
 pub mod function_block_info;
+pub mod named;
 pub mod target;

@@ -22,7 +22,7 @@ use Rattle.kinds.specs.declared.kind.Known.the-variants.{Is, Unknown}
 use Rattle.kinds.specs.Choices.{noPort, noDirection}
 use Rattle.kinds.specs.Fields.{Field}
 use Rattle.kinds.specs.Layout.{layout, mostOf, kindOf}
-use Rattle.kinds.specs.Refusals.{placeOf}
+use Rattle.kinds.specs.Refusals.{refusalPlace}
 use Rattle.records.specs.declared.answers.Read.{Read}
 use Rattle.records.specs.declared.answers.Read.the-variants as R
 use Rattle.standard.specs.declared.Step.{Step}
@@ -36,13 +36,13 @@ use Rattle.standard.specs.Walk.{stepOf, afterStep, framePacket, frameFro
 -- ---- reading
 abbrev pub Near : Read → Type 0
 Near (R.Message m) = Unit
-Near (R.Refused r) = placeOf r ≤ 64
+Near (R.Refused r) = refusalPlace r ≤ 64
 
 -- a test that refuses without a place, and a rule that refuses at a packet
-tested : (t : Bool) (r : Refusal) (rest : Read) → placeOf r ≤ 64 → (t ≡ false → Near rest) → Near (pick t (R.Refused r) rest)
+tested : (t : Bool) (r : Refusal) (rest : Read) → refusalPlace r ≤ 64 → (t ≡ false → Near rest) → Near (pick t (R.Refused r) rest)
 tested t r rest h g = picked Near t (R.Refused r) rest (λ e. h) g
 
-ruled-near : (broken : ℕ → Bool) (n : ℕ) (why : PacketNumber → Refusal) (rest : Read) → n ≤ 64 → ((p : PacketNumber) → placeOf (why p) ≡ p .0) → Near rest → Near (ruled broken n why rest)
+ruled-near : (broken : ℕ → Bool) (n : ℕ) (why : PacketNumber → Refusal) (rest : Read) → n ≤ 64 → ((p : PacketNumber) → refusalPlace (why p) ≡ p .0) → Near rest → Near (ruled broken n why rest)
 unfolding ruled
 ruled-near broken n why rest h e r =
     picked Near (ltb (first broken n) n) _ _ (λ t. rw e (omega (arith, first-is broken n .high))) (λ t. r)
@@ -77,7 +77,7 @@ module _ (ws : List ℕ) where
 abbrev pub Close : Framed → Type 0
 Close (Whole n) = Unit
 Close Short = Unit
-Close (Broken r) = placeOf r ≤ 64
+Close (Broken r) = refusalPlace r ≤ 64
 
 step-close : (t : Step) (p : ℕ) (rest : Framed) → p ≤ 64 → Close rest → Close (afterStep t p rest)
 step-close Ends p rest h r = tt

@@ -16,7 +16,7 @@ use Rattle.laws.proofs.Pick.{never, here, past, below, split}
 use Rattle.laws.proofs.Lists.{length-tabulate, getD-tabulate, nonzero-zero, nonzero-kept, nonzero-length, nonzero-none}
 use Rattle.counts.specs.Counts.{packet, byte}
 use Rattle.text.specs.Bytes.{textByte, allBytes, textOf}
-use Rattle.text.specs.Place.{placeOf, byteFrom, byteAt, stepped, seek, stepAt}
+use Rattle.text.specs.Place.{textPlaceAt, byteFrom, byteAt, stepped, seek, stepAt}
 use Rattle.text.specs.Handed.{startPlace, endPlace, nextPlace, handed, placeAfter, HandsOut, none, more}
 use Rattle.text.specs.declared.TextPlace.{TextPlace}
 use Rattle.text.specs.declared.TextStep.the-variants.{Byte, End}
@@ -34,15 +34,15 @@ byte-in ws cap at hp hb = simp (lt-leb (length ws / 4) (at .packet .0) hp, lt-le
 -- ---- places and bytes counted over all packets
 module _ (cap : ℕ) where
   -- the count of a place is the count that the place was made of
-  pub place-back : (m : ℕ) → byteFrom cap (placeOf cap m) ≡ m
+  pub place-back : (m : ℕ) → byteFrom cap (textPlaceAt cap m) ≡ m
   place-back m = div-add-mod' m cap
 
-  pub place-low : 0 < cap → (m : ℕ) → placeOf cap m .byte .0 < cap
+  pub place-low : 0 < cap → (m : ℕ) → textPlaceAt cap m .byte .0 < cap
   place-low pos m = mod-lt m pos
 
   module _ (at : TextPlace) (hb : at .byte .0 < cap) where
     -- and back, where the byte is within the capacity
-    pub place-is : placeOf cap (byteFrom cap at) ≡ at
+    pub place-is : textPlaceAt cap (byteFrom cap at) ≡ at
     place-is = rw (digits-div (at .packet .0) hb, digits-mod (at .packet .0) hb)
 
     -- a place of a packet below n is a byte below n packets' bytes
@@ -59,19 +59,19 @@ pub next-low : (cap : ℕ) (at : TextPlace) → 0 < cap → nextPlace cap at .by
 next-low cap at pos = place-low cap pos (suc (byteFrom cap at))
 
 -- the place after all bytes: packet count, byte 0
-pub end-is : (ws : List ℕ) (cap : ℕ) → 0 < cap → placeOf cap (length ws / 4 * cap) ≡ endPlace ws
+pub end-is : (ws : List ℕ) (cap : ℕ) → 0 < cap → textPlaceAt cap (length ws / 4 * cap) ≡ endPlace ws
 end-is ws cap pos = rw (mul-div-cancel (length ws / 4) pos, mul-mod-left)
 
 -- the place after one, as it is reckoned: in the next packet after a packet's last byte
 pub next-packet : (cap : ℕ) (at : TextPlace) → at .byte .0 + 1 ≡ cap → record { packet = packet (at .packet .0 + 1); byte = byte 0 } ≡ nextPlace cap at
 next-packet cap at e =
     let q : (at .packet .0 + 1) * cap + 0 ≡ suc (byteFrom cap at) = omega (arith, add-mul (at .packet .0) 1 cap) in
-    sym (place-is cap (record { packet = packet (at .packet .0 + 1); byte = byte 0 }) (omega arith)) ∙ ap (placeOf cap) q
+    sym (place-is cap (record { packet = packet (at .packet .0 + 1); byte = byte 0 }) (omega arith)) ∙ ap (textPlaceAt cap) q
 
 pub next-byte : (cap : ℕ) (at : TextPlace) → at .byte .0 + 1 < cap → record { packet = packet (at .packet .0); byte = byte (at .byte .0 + 1) } ≡ nextPlace cap at
 next-byte cap at h =
     let q : at .packet .0 * cap + (at .byte .0 + 1) ≡ suc (byteFrom cap at) = omega arith in
-    sym (place-is cap (record { packet = packet (at .packet .0); byte = byte (at .byte .0 + 1) }) h) ∙ ap (placeOf cap) q
+    sym (place-is cap (record { packet = packet (at .packet .0); byte = byte (at .byte .0 + 1) }) h) ∙ ap (textPlaceAt cap) q
 
 pub length-all : (ws : List ℕ) (cap n : ℕ) → length (allBytes ws cap n) ≡ n * cap
 unfolding allBytes
@@ -87,11 +87,11 @@ pub seek-zero : (cap x : ℕ) (xs : List ℕ) (m : ℕ) → x ≡ 0 → seek cap
 unfolding seek
 seek-zero cap x xs m e = rw (eq-eqb x 0 e)
 
-pub seek-byte : (cap x : ℕ) (xs : List ℕ) (m : ℕ) → (x ≡ 0 → ⊥) → seek cap (x ∷ xs) m ≡ stepped (Byte x) (placeOf cap (suc m))
+pub seek-byte : (cap x : ℕ) (xs : List ℕ) (m : ℕ) → (x ≡ 0 → ⊥) → seek cap (x ∷ xs) m ≡ stepped (Byte x) (textPlaceAt cap (suc m))
 unfolding seek
 seek-byte cap x xs m n = rw (ne-eqb x 0 n)
 
-pub seek-end : (cap m : ℕ) → seek cap [] m ≡ stepped End (placeOf cap m)
+pub seek-end : (cap m : ℕ) → seek cap [] m ≡ stepped End (textPlaceAt cap m)
 unfolding seek
 seek-end cap m = refl
 
@@ -119,8 +119,8 @@ module _ (ws : List ℕ) (cap : ℕ) where
           step-past at h ∙ sym (rw (drop-of-length-le (bytesIn ws cap) l) (seek-end cap (byteFrom cap at) ∙ ap (stepped End) (place-is cap at hb)))
 
   -- the step from byte m, counted over all packets
-  step-from : 0 < cap → (m : ℕ) → stepAt ws cap (placeOf cap m) ≡ seek cap (drop m (bytesIn ws cap)) m
-  step-from pos m = step-seek (placeOf cap m) (place-low cap pos m) ∙ rw (place-back cap m)
+  step-from : 0 < cap → (m : ℕ) → stepAt ws cap (textPlaceAt cap m) ≡ seek cap (drop m (bytesIn ws cap)) m
+  step-from pos m = step-seek (textPlaceAt cap m) (place-low cap pos m) ∙ rw (place-back cap m)
 
   -- a place within the text: a zero is passed, and another byte is handed out with the place after it
   module _ (at : TextPlace) (hp : at .packet .0 < length ws / 4) (hb : at .byte .0 < cap) where
@@ -137,19 +137,19 @@ module _ (ws : List ℕ) (cap : ℕ) where
 
   -- the bytes from byte m on are xs: what the step from there finds
   module _ (pos : 0 < cap) (m : ℕ) where
-    step-rest : (xs : List ℕ) → drop m (bytesIn ws cap) ≡ xs → stepAt ws cap (placeOf cap m) ≡ seek cap xs m
+    step-rest : (xs : List ℕ) → drop m (bytesIn ws cap) ≡ xs → stepAt ws cap (textPlaceAt cap m) ≡ seek cap xs m
     step-rest xs e = step-from pos m ∙ ap (λ (l : List ℕ). seek cap l m) e
 
-    from-end : drop m (bytesIn ws cap) ≡ [] → stepAt ws cap (placeOf cap m) ≡ stepped End (placeOf cap m)
+    from-end : drop m (bytesIn ws cap) ≡ [] → stepAt ws cap (textPlaceAt cap m) ≡ stepped End (textPlaceAt cap m)
     from-end e = step-rest [] e ∙ seek-end cap m
 
     rest : (x : ℕ) (xs : List ℕ) → drop m (bytesIn ws cap) ≡ x ∷ xs → drop (suc m) (bytesIn ws cap) ≡ xs
     rest x xs e = rw (← (add-one m)) (sym (drop-drop 1 m (bytesIn ws cap)) ∙ ap (drop 1) e)
 
-    from-byte : (x : ℕ) (xs : List ℕ) → drop m (bytesIn ws cap) ≡ x ∷ xs → (x ≡ 0 → ⊥) → stepAt ws cap (placeOf cap m) ≡ stepped (Byte x) (placeOf cap (suc m))
+    from-byte : (x : ℕ) (xs : List ℕ) → drop m (bytesIn ws cap) ≡ x ∷ xs → (x ≡ 0 → ⊥) → stepAt ws cap (textPlaceAt cap m) ≡ stepped (Byte x) (textPlaceAt cap (suc m))
     from-byte x xs e n = step-rest (x ∷ xs) e ∙ seek-byte cap x xs m n
 
-  from-zero : (pos : 0 < cap) (m x : ℕ) (xs : List ℕ) → drop m (bytesIn ws cap) ≡ x ∷ xs → x ≡ 0 → stepAt ws cap (placeOf cap m) ≡ stepAt ws cap (placeOf cap (suc m))
+  from-zero : (pos : 0 < cap) (m x : ℕ) (xs : List ℕ) → drop m (bytesIn ws cap) ≡ x ∷ xs → x ≡ 0 → stepAt ws cap (textPlaceAt cap m) ≡ stepAt ws cap (textPlaceAt cap (suc m))
   from-zero pos m x xs e z = step-rest pos m (x ∷ xs) e ∙ seek-zero cap x xs m z ∙ sym (step-rest pos (suc m) xs (rest pos m x xs e))
 
   -- a place that is the end stays so, step after step
@@ -164,13 +164,13 @@ module _ (ws : List ℕ) (cap : ℕ) where
   hands-same e (more f r) = more (e ∙ f) r
 
   -- the bytes xs are those from byte m on
-  hands-from : 0 < cap → (xs : List ℕ) (m : ℕ) → m + length xs ≡ length ws / 4 * cap → drop m (bytesIn ws cap) ≡ xs → HandsOut ws cap (placeOf cap m) (nonzero xs)
+  hands-from : 0 < cap → (xs : List ℕ) (m : ℕ) → m + length xs ≡ length ws / 4 * cap → drop m (bytesIn ws cap) ≡ xs → HandsOut ws cap (textPlaceAt cap m) (nonzero xs)
   hands-from pos [] m l e =
       let q : length ws / 4 * cap ≡ m = omega arith in
-      rw nonzero-none (none (from-end pos m e ∙ ap (stepped End) (ap (placeOf cap) (sym q) ∙ end-is ws cap pos)))
+      rw nonzero-none (none (from-end pos m e ∙ ap (stepped End) (ap (textPlaceAt cap) (sym q) ∙ end-is ws cap pos)))
   hands-from pos (x ∷ xs) m l e = go (hands-from pos xs (suc m) (omega arith) (rest pos m x xs e))
     where
-      go : HandsOut ws cap (placeOf cap (suc m)) (nonzero xs) → HandsOut ws cap (placeOf cap m) (nonzero (x ∷ xs))
+      go : HandsOut ws cap (textPlaceAt cap (suc m)) (nonzero xs) → HandsOut ws cap (textPlaceAt cap m) (nonzero (x ∷ xs))
       go ih =
           split (eqb x 0) (λ t. let z : x ≡ 0 = eqb-true x 0 t in rw (nonzero-zero x xs z) (hands-same (from-zero pos m x xs e z) ih))
           (λ t. let z : x ≡ 0 → ⊥ = eqb-false x 0 t in rw (nonzero-kept x xs z) (more (from-byte pos m x xs e z) ih))
@@ -188,7 +188,7 @@ module _ (ws : List ℕ) (cap : ℕ) where
   hands-all pos =
       let q : 0 ≡ byteFrom cap startPlace = omega arith in
       let l = length-all ws cap (length ws / 4) in
-      subst (λ (p : TextPlace). HandsOut ws cap p (textOf ws cap (length ws / 4))) (ap (placeOf cap) q ∙ place-is cap startPlace pos)
+      subst (λ (p : TextPlace). HandsOut ws cap p (textOf ws cap (length ws / 4))) (ap (textPlaceAt cap) q ∙ place-is cap startPlace pos)
       (hands-from pos (bytesIn ws cap) 0 (omega arith) refl)
 
 -- ---- what a place that hands out xs tells

@@ -4,7 +4,7 @@ use mathlib.Core.Path.{_≡_}
 use mathlib.Core.List.{List, [], _∷_}
 use lib.ListN.{length}
 use Rattle.counts.specs.Counts.{packet, byte}
-use Rattle.text.specs.Place.{placeOf, byteFrom, stepped, stepAt}
+use Rattle.text.specs.Place.{textPlaceAt, byteFrom, stepped, stepAt}
 use Rattle.text.specs.declared.TextPlace.{TextPlace}
 use Rattle.text.specs.declared.TextStep.{TextStep}
 use Rattle.text.specs.declared.TextStep.the-variants.{Byte, End}
@@ -19,7 +19,7 @@ endPlace ws = record { packet = packet (length ws / 4); byte = byte 0 }
 
 -- the place after one: the next packet's byte 0 after a packet's last byte
 abbrev pub nextPlace : ℕ → TextPlace → TextPlace
-nextPlace cap at = placeOf cap (suc (byteFrom cap at))
+nextPlace cap at = textPlaceAt cap (suc (byteFrom cap at))
 
 -- a step's byte with those of the steps after it, and none at the end
 abbrev pub before : TextStep → List ℕ → List ℕ

@@ -12,8 +12,8 @@ use Rattle.text.specs.declared.TextStep.the-variants.{Byte, End}
 use Rattle.text.specs.declared.Stepped.{Stepped}
 
 -- the place of byte m, counted over the text bytes of all packets
-abbrev pub placeOf : ℕ → ℕ → TextPlace
-placeOf cap m = record { packet = packet (m / cap); byte = byte (m % cap) }
+abbrev pub textPlaceAt : ℕ → ℕ → TextPlace
+textPlaceAt cap m = record { packet = packet (m / cap); byte = byte (m % cap) }
 
 -- and back
 abbrev pub byteFrom : ℕ → TextPlace → ℕ
@@ -29,8 +29,8 @@ stepped s at = record { step = s; place = at }
 
 -- of the bytes from byte m on, the first that is not zero and the place after it; else the end, after them all
 unfoldable pub seek : ℕ → List ℕ → ℕ → Stepped
-seek cap [] m = stepped End (placeOf cap m)
-seek cap (x ∷ xs) m = pick (eqb x 0) (seek cap xs (suc m)) (stepped (Byte x) (placeOf cap (suc m)))
+seek cap [] m = stepped End (textPlaceAt cap m)
+seek cap (x ∷ xs) m = pick (eqb x 0) (seek cap xs (suc m)) (stepped (Byte x) (textPlaceAt cap (suc m)))
 
 -- a place with its packet at or past the count, or its byte at or past the capacity, is the end and does not move
 unfoldable pub stepAt : List ℕ → ℕ → TextPlace → Stepped

@@ -8,7 +8,7 @@ use lib.Arith.{digits-lt}
 use lib.ListN.{getD, drop}
 use Rattle.laws.specs.Lists.{tabulate, nonzero}
 use Rattle.utf8.specs.Utf8.{firstBad}
-use Rattle.utf8.specs.Scan.{endedOf, unreadOf, readOf, verdictOn}
+use Rattle.utf8.specs.Scan.{endedOf, unreadOf, readingAfter, verdictOn}
 use Rattle.counts.specs.Counts.{packet, byte}
 use Rattle.counts.specs.declared.TextByteNumber.{TextByteNumber}
 use Rattle.utf8.specs.declared.scan.Scan.the-variants.{Stopped}
@@ -45,7 +45,7 @@ module _ (ws : List ℕ) (cap n : ℕ) where
   pub begin : 0 < cap → Left unreadOf 0 0
   begin h = let z : 0 * cap + 0 ≡ 0 = omega arith in record { low = h; few = omega arith; same = rw z (unread-law (allBytes ws cap n)) }
 
-  pub turn : (q r : Reading) (p b : ℕ) → p < n → q .at .0 + 1 < 2 ^ 64 → Left q p b → r ≡ readOf q (textByte ws cap p b) → Passed r p b
+  pub turn : (q r : Reading) (p b : ℕ) → p < n → q .at .0 + 1 < 2 ^ 64 → Left q p b → r ≡ readingAfter q (textByte ws cap p b) → Passed r p b
   turn q r p b h k l e =
       let v : getD (allBytes ws cap n) (p * cap + b) 0 ≡ textByte ws cap p b = all-at ws cap n (record { packet = packet p; byte = byte b }) h (l .low) in
       record {

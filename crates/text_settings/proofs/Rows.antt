@@ -24,8 +24,8 @@ use Rattle.standard.specs.Heads.{packetsOf}
 use Rattle.standard.specs.Reading.{isBad}
 use Rattle.standard.specs.Walk.{walkOf}
 use Rattle.standard.specs.Words.{left, missing, answerTo, actIn, putWord, headOf, setOn}
-use Rattle.filling.specs.Filling.{putEach, formatted, fillText}
-use Rattle.filling.proofs.Puts.{inWord, each-put, text-filled}
+use Rattle.buffer.specs.Filling.{putEach, formatted, fillText}
+use Rattle.buffer.proofs.Puts.{inWord, each-put, text-filled}
 use Rattle.settings.specs.declared.target.Target.{Target}
 use Rattle.settings.specs.declared.target.Target.the-variants as T
 use Rattle.settings.specs.Target.{targetOf, settled}

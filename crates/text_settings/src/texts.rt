@@ -7,7 +7,7 @@ ghost use Rattle.text_settings.specs.Texts.{LoneHead, roomOf, planOf, te
 use crate::target::find_near_target;
 use counts::PacketNumber;
 use fast_text::check_utf8;
-use filling::texts::fill_text;
+use buffer::texts::fill_text;
 use kinds::kind::Kind;
 use kinds::refusal::Refusal;
 use records::answers::Answer;

@@ -21,7 +21,7 @@ use Rattle.utf8.specs.declared.reading.Reading.{Reading}
 use Rattle.utf8.specs.declared.Utf8.{Utf8}
 use Rattle.utf8.specs.declared.Utf8.the-variants.{BadAt}
 use Rattle.utf8.specs.Utf8.{Range, _‥_, inside, tail, after, going, stopped, begun, next, verdict, walk, firstBad}
-use Rattle.utf8.specs.Scan.{onesFrom, lengthBy, lengthOf, barredOf, lowOf, highOf, beganOf, steppedOf, endedOf, ranges, meaning, unreadOf, readOf, verdictOn}
+use Rattle.utf8.specs.Scan.{onesFrom, lengthBy, lengthOf, barredOf, lowOf, highOf, beganOf, steppedOf, endedOf, ranges, meaning, unreadOf, readingAfter, verdictOn}
 use Rattle.utf8.proofs.Same.{same-ranges, same, same-eq}
 use Rattle.utf8.proofs.Valid.{walk-stopped}
 
@@ -92,14 +92,14 @@ pub unread-law : (xs : List ℕ) → verdictOn unreadOf xs ≡ firstBad (nonzero
 unfolding firstBad
 unread-law xs = refl
 
-read-law : (r : Reading) (b : ℕ) (xs : List ℕ) → b < 256 → r .at .0 + 1 < 2 ^ 64 → verdictOn (readOf r b) xs ≡ verdictOn r (b ∷ xs)
-unfolding readOf nonzero
+read-law : (r : Reading) (b : ℕ) (xs : List ℕ) → b < 256 → r .at .0 + 1 < 2 ^ 64 → verdictOn (readingAfter r b) xs ≡ verdictOn r (b ∷ xs)
+unfolding readingAfter nonzero
 read-law r zero xs h k = refl
 read-law r (suc n) xs h k = rw (eqb·suc-zero, mod-eq-of-lt k, add-one, stepped-law (r .scan) (r .at) (suc n) h)
 
 -- the count rises by one at most
-pub read-at : (r : Reading) (b : ℕ) → readOf r b .at .0 ≤ r .at .0 + 1
-unfolding readOf
+pub read-at : (r : Reading) (b : ℕ) → readingAfter r b .at .0 ≤ r .at .0 + 1
+unfolding readingAfter
 read-at r zero = omega arith
 read-at r (suc k) = rw eqb·suc-zero (omega arith)
 
@@ -108,7 +108,7 @@ read-early r xs n v e h = early (r .scan) (r .at .0) (nonzero xs) n v e h
 
 -- ---- a turn of a loop over bytes that are read, and its end
 
-pub read-turn : (text : List ℕ) (q r : Reading) (i : ℕ) → i < length text → getD text i 0 < 256 → q .at .0 + 1 < 2 ^ 64 → r ≡ readOf q (getD text i 0) → verdictOn r (drop (suc i) text) ≡ verdictOn q (drop i text)
+pub read-turn : (text : List ℕ) (q r : Reading) (i : ℕ) → i < length text → getD text i 0 < 256 → q .at .0 + 1 < 2 ^ 64 → r ≡ readingAfter q (getD text i 0) → verdictOn r (drop (suc i) text) ≡ verdictOn q (drop i text)
 read-turn text q r i h f k e = rw (e, drop-cons text i 0 h) (read-law q (getD text i 0) (drop (suc i) text) f k)
 
 pub read-finish : (text : List ℕ) (r : Reading) (i : ℕ) → length text ≤ i → endedOf (r .scan) ≡ verdictOn r (drop i text)

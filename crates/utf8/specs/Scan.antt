@@ -90,8 +90,8 @@ abbrev pub unreadOf : Reading
 unreadOf = record { scan = freshOf; at = byte 0 }
 
 -- the check after one byte more, zero or not; the count goes round at 2 ^ 64, which no slice reaches
-unfoldable pub readOf : Reading → ℕ → Reading
-readOf r b =
+unfoldable pub readingAfter : Reading → ℕ → Reading
+readingAfter r b =
     pick (eqb b 0) r (record { scan = steppedOf (r .scan) (r .at) b; at = byte ((r .at .0 + 1) % 2 ^ 64) })
 
 -- the verdict where the bytes xs are still to come

@@ -1,6 +1,6 @@
 // The check of a text whose zero bytes are dropped as they come, so that the text is nowhere put together.
 ghost use mathlib.Core.Path.{_≡_};
-ghost use Rattle.utf8.specs.Scan.{unreadOf, readOf};
+ghost use Rattle.utf8.specs.Scan.{unreadOf, readingAfter};
 use crate::scan;
 use crate::scan::Scan;
 use counts::TextByteNumber;
@@ -23,7 +23,7 @@ pub fn unread() -> Reading
 
 // The check after one byte more, zero or not.
 pub fn read_byte(r: Reading, b: u8) -> Reading
-    ensures { λ q. ⌜ q ≡ readOf r b ⌝ }
+    ensures { λ q. ⌜ q ≡ readingAfter r b ⌝ }
 {
     if b == 0 {
         return r;

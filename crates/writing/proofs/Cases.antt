@@ -19,7 +19,7 @@ use Rattle.records.specs.declared.function_block_info.FunctionBlockInfo.{Functi
 use Rattle.records.specs.declared.answers.Answer.the-variants as A
 use Rattle.records.specs.Records.{kindIn, valuesOf}
 use Rattle.standard.specs.Words.{left, unchanged, hasText, encodeIn, encode, writeOn}
-use Rattle.filling.proofs.Puts.{inWord, ins-put}
+use Rattle.buffer.proofs.Puts.{inWord, ins-put}
 use Rattle.writing.specs.Put.{putRecord}
 
 pub write-text : (m : Message) (ws : List ℕ) → hasText (layout (kindIn m) .body) ≡ true → writeOn m ws ≡ unchanged NoSuchField ws

@@ -3,7 +3,7 @@ ghost use mathlib.Core.Path.{_≡_};
 ghost use Rattle.kinds.specs.Fields.{start};
 ghost use Rattle.kinds.specs.Layout.{layout};
 ghost use Rattle.standard.specs.Words.{headOf, freshOn};
-use filling::packets::clear;
+use buffer::packets::clear;
 use kinds::kind::Kind;
 use kinds::kind::Known;
 use kinds::refusal::Refusal;

@@ -6,11 +6,11 @@ use borrow.Author.Needs.{needs}
 use Rattle.bit_ops.proofs.bit.Statement.{statement}
 use Rattle.bit_ops.proofs.bit.Tie as tie
 
-part-requires : tie.Need-part-requires
-part-requires c κs = search needs
-
 returns : tie.Need-returns
 returns c = ap (λ (x : ℕ). eqb x 1) (c .part .ensures .0)
 
 pub bit-spec : {M : Type 1} → statement M
-bit-spec = tie.close (tie.spec part-requires returns)
+bit-spec =
+    tie.close
+    (tie.spec
+    (λ c κs. search needs) returns)

@@ -5,18 +5,6 @@ use borrow.Author.Needs.{needs}
 use Rattle.bit_ops.proofs.get.Statement.{statement}
 use Rattle.bit_ops.proofs.get.Tie as tie
 
-cast-result : tie.Need-cast-result
-cast-result c = search needs
-
-shr-result : tie.Need-shr-result
-shr-result c = search needs
-
-cast-result-2 : tie.Need-cast-result-2
-cast-result-2 c = search needs
-
-shl-result : tie.Need-shl-result
-shl-result c = search needs
-
 rem-result : tie.Need-rem-result
 rem-result c = rw (one-shl 32 (c .pre .1)) (pow-pos _)
 
@@ -24,4 +12,8 @@ returns : tie.Need-returns
 returns c = rw (one-shl 32 (c .pre .1))
 
 pub get-spec : {M : Type 1} → statement M
-get-spec = tie.close (tie.spec cast-result shr-result cast-result-2 shl-result rem-result returns)
+get-spec =
+    tie.close
+    (tie.spec
+    (λ c. search needs) (λ c. search needs) (λ c. search needs) (λ c. search needs) rem-result
+    returns)

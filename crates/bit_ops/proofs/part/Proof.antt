@@ -6,20 +6,14 @@ use borrow.Author.Needs.{needs}
 use Rattle.bit_ops.proofs.part.Statement.{statement}
 use Rattle.bit_ops.proofs.part.Tie as tie
 
-div-if1 : tie.Need-div-if1
-div-if1 c = search needs
-
 returns : tie.Need-returns
 returns c = (sym (part-out _ _ _ _ (c .if1 .taken)), pow-pos _)
-
-place-requires : tie.Need-place-requires
-place-requires c κs = search needs
-
-get-requires : tie.Need-get-requires
-get-requires c κs = search needs
 
 returns-2 : tie.Need-returns-2
 returns-2 c = part-at _ _ _ _ _ _ (c .before .before .if1 .left) (c .before .place .ensures) (c .get .ensures)
 
 pub part-spec : {M : Type 1} → statement M
-part-spec = tie.close (tie.spec div-if1 returns place-requires get-requires returns-2)
+part-spec =
+    tie.close
+    (tie.spec
+    (λ c. search needs) returns (λ c κs. search needs) (λ c κs. search needs) returns-2)

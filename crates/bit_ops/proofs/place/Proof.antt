@@ -15,8 +15,8 @@ mul-result c = omega (arith, in-word (c .args .stride) (c .args .index) (c .pre)
 sub-result : tie.Need-sub-result
 sub-result c = in-word (c .args .stride) (c .args .index) (c .pre)
 
-returns : tie.Need-returns
-returns c = search needs
-
 pub place-spec : {M : Type 1} → statement M
-place-spec = tie.close (tie.spec add-result mul-result sub-result returns)
+place-spec =
+    tie.close
+    (tie.spec
+    add-result mul-result sub-result (λ c. search needs))

@@ -7,26 +7,11 @@ use borrow.Author.Needs.{needs}
 use Rattle.bit_ops.proofs.set_part.Statement.{statement}
 use Rattle.bit_ops.proofs.set_part.Tie as tie
 
-div-if1 : tie.Need-div-if1
-div-if1 c = search needs
-
 returns : tie.Need-returns
 returns c = sym (put-out _ _ _ _ _ (c .if1 .taken))
 
-cast-if2 : tie.Need-cast-if2
-cast-if2 c = search needs
-
-shl-if2 : tie.Need-shl-if2
-shl-if2 c = search needs
-
 returns-2 : tie.Need-returns-2
 returns-2 c = sym (put-large _ _ _ _ _ (c .before .if1 .left) (omega (arith, one-shl {k = c .before .before .args .span} 32 (omega arith))))
-
-place-requires : tie.Need-place-requires
-place-requires c κs = search needs
-
-put-requires : tie.Need-put-requires
-put-requires c κs = search needs
 
 returns-3 : tie.Need-returns-3
 returns-3 c = put-at _ _ _ _ _ _ _ (c .before .before .before .if1 .left) (omega arith) (c .before .place .ensures) (c .put .ensures)
@@ -34,4 +19,6 @@ returns-3 c = put-at _ _ _ _ _ _ _ (c .before .before .before .if1 .left) (omega
 pub set-part-spec : {M : Type 1} → statement M
 set-part-spec =
     tie.close
-    (tie.spec div-if1 returns cast-if2 shl-if2 returns-2 place-requires put-requires returns-3)
+    (tie.spec
+    (λ c. search needs) returns (λ c. search needs) (λ c. search needs) returns-2
+    (λ c κs. search needs) (λ c κs. search needs) returns-3)

@@ -136,45 +136,10 @@ pub run-spec : {M : Type 1} → statement M
 run-spec =
     tie.close
     (tie.spec
-    Inv-loop
-    μ-loop
-    loop-holds
-    sub-if1
-    same-length
-    returns
-    shared-slice-read-wide
-    wide-requires
-    mul-high
-    add-wide
-    shared-slice-read-wide-2
-    wide-requires-2
-    mul-high-2
-    add-high
-    add-wide-2
-    shared-slice-read-wide-3
-    wide-requires-3
-    mul-low
-    add-wide-3
-    shared-slice-read-wide-4
-    wide-requires-4
-    add-low
-    add-from
-    add-count
-    sub-if2
-    same-length-2
-    returns-2
-    add-to
-    sub-list
-    part-list-start
-    part-list-end
-    list-requires
-    sub-write-all
-    part-write-all-start
-    part-write-all-end
-    write-all-requires
-    loop-less
-    loop-again
-    loop-less-2
-    loop-again-2
-    same-length-3
-    returns-3)
+    Inv-loop μ-loop loop-holds sub-if1 same-length returns shared-slice-read-wide wide-requires
+    mul-high add-wide shared-slice-read-wide-2 wide-requires-2 mul-high-2 add-high add-wide-2
+    shared-slice-read-wide-3 wide-requires-3 mul-low add-wide-3 shared-slice-read-wide-4
+    wide-requires-4 add-low add-from add-count sub-if2 same-length-2 returns-2 add-to sub-list
+    part-list-start part-list-end list-requires sub-write-all part-write-all-start
+    part-write-all-end write-all-requires loop-less loop-again loop-less-2 loop-again-2
+    same-length-3 returns-3)

@@ -142,47 +142,10 @@ pub run-spec : {M : Type 1} → statement M
 run-spec =
     tie.close
     (tie.spec
-    Inv-loop
-    μ-loop
-    loop-holds
-    sub-if1
-    same-length
-    returns
-    add-wide
-    shared-slice-read-wide
-    wide-requires
-    mul-words
-    add-wide-2
-    shared-slice-read-wide-2
-    wide-requires-2
-    add-words
-    add-wide-3
-    shared-slice-read-wide-3
-    wide-requires-3
-    mul-bytes
-    add-wide-4
-    shared-slice-read-wide-4
-    wide-requires-4
-    add-bytes
-    add-from
-    sub-if2
-    same-length-2
-    returns-2
-    mul-middle
-    add-middle
-    sub-if3
-    same-length-3
-    returns-3
-    add-to
-    shared-slice-read-put-case
-    sub-put-case
-    part-put-case-start
-    part-put-case-end
-    sub-put-case-2
-    part-put-case-start-2
-    part-put-case-end-2
-    put-case-requires
-    loop-less
-    loop-again
-    same-length-4
-    returns-4)
+    Inv-loop μ-loop loop-holds sub-if1 same-length returns add-wide shared-slice-read-wide
+    wide-requires mul-words add-wide-2 shared-slice-read-wide-2 wide-requires-2 add-words
+    add-wide-3 shared-slice-read-wide-3 wide-requires-3 mul-bytes add-wide-4
+    shared-slice-read-wide-4 wide-requires-4 add-bytes add-from sub-if2 same-length-2 returns-2
+    mul-middle add-middle sub-if3 same-length-3 returns-3 add-to shared-slice-read-put-case
+    sub-put-case part-put-case-start part-put-case-end sub-put-case-2 part-put-case-start-2
+    part-put-case-end-2 put-case-requires loop-less loop-again same-length-4 returns-4)

@@ -91,30 +91,7 @@ pub run-spec : {M : Type 1} → statement M
 run-spec =
     tie.close
     (tie.spec
-    Inv-loop
-    μ-loop
-    loop-holds
-    sub-if1
-    same-length
-    returns
-    shared-slice-read-wide
-    wide-requires
-    mul-count
-    add-wide
-    shared-slice-read-wide-2
-    wide-requires-2
-    add-count
-    add-from
-    sub-if2
-    same-length-2
-    returns-2
-    mul-to
-    add-to
-    sub-put-case
-    part-put-case-start
-    part-put-case-end
-    put-case-requires
-    loop-less
-    loop-again
-    same-length-3
-    returns-3)
+    Inv-loop μ-loop loop-holds sub-if1 same-length returns shared-slice-read-wide wide-requires
+    mul-count add-wide shared-slice-read-wide-2 wide-requires-2 add-count add-from sub-if2
+    same-length-2 returns-2 mul-to add-to sub-put-case part-put-case-start part-put-case-end
+    put-case-requires loop-less loop-again same-length-3 returns-3)

@@ -4,7 +4,7 @@ use mathlib.Core.Path.{_∙_, ap}
 use native.Mathlib.Omega.{arith}
 use borrow.Author.Needs.{needs}
 use lib.ListN.{length}
-use Rattle.utf8.specs.Scan.{readOf}
+use Rattle.utf8.specs.Scan.{readingAfter}
 use Rattle.text.proofs.Place.{byte-in}
 use Rattle.text_check.proofs.Turns.{Left, Passed, no-text, begin, turn, stop, on, over, finish}
 use Rattle.text_check.proofs.check_text.Statement.{statement}
@@ -36,7 +36,7 @@ passed : (c : tie.After-read-byte Inv-loop μ-loop) → Passed (c .before .befor
 passed c =
     let l = c .before .before .before in
     let start = l .before .before .before .before in
-    turn _ _ _ (l .loop .r) _ (l .loop .p) (l .loop .b) (c .before .before .loop-test .taken) (omega (arith, start .good .0 .1, l .loop .inv .few, l .loop .inv .low)) (l .loop .inv) (c .read-byte .ensures ∙ ap (readOf _) (c .before .text-byte .ensures ∙ byte-in _ _ _ (c .before .before .loop-test .taken) (l .loop .inv .low)))
+    turn _ _ _ (l .loop .r) _ (l .loop .p) (l .loop .b) (c .before .before .loop-test .taken) (omega (arith, start .good .0 .1, l .loop .inv .few, l .loop .inv .low)) (l .loop .inv) (c .read-byte .ensures ∙ ap (readingAfter _) (c .before .text-byte .ensures ∙ byte-in _ _ _ (c .before .before .loop-test .taken) (l .loop .inv .low)))
 
 enum-known-s : tie.Need-enum-known-s Inv-loop μ-loop
 enum-known-s c = search needs
@@ -78,22 +78,6 @@ pub check-text-spec : {M : Type 1} → statement M
 check-text-spec =
     tie.close
     (tie.spec
-    Inv-loop
-    μ-loop
-    returns
-    unread-requires
-    loop-holds
-    text-byte-requires
-    read-byte-requires
-    enum-known-s
-    returns-2
-    enum-told
-    add-b
-    sub-if2
-    add-p
-    loop-less
-    loop-again
-    loop-less-2
-    loop-again-2
-    ended-requires
-    returns-3)
+    Inv-loop μ-loop returns unread-requires loop-holds text-byte-requires read-byte-requires
+    enum-known-s returns-2 enum-told add-b sub-if2 add-p loop-less loop-again loop-less-2
+    loop-again-2 ended-requires returns-3)

@@ -64,17 +64,5 @@ pub check-utf8-spec : {M : Type 1} → statement M
 check-utf8-spec =
     tie.close
     (tie.spec
-    Inv-loop
-    μ-loop
-    fresh-requires
-    loop-holds
-    shared-slice-read-stepped
-    stepped-requires
-    enum-known-s
-    returns
-    enum-told
-    add-i
-    loop-less
-    loop-again
-    ended-requires
-    returns-2)
+    Inv-loop μ-loop fresh-requires loop-holds shared-slice-read-stepped stepped-requires
+    enum-known-s returns enum-told add-i loop-less loop-again ended-requires returns-2)

@@ -95,30 +95,7 @@ pub frame-spec : {M : Type 1} → statement M
 frame-spec =
     tie.close
     (tie.spec
-    Inv-loop
-    μ-loop
-    mul-status-of
-    shared-slice-read-status-of
-    status-of-requires
-    loop-holds
-    sub-if1
-    returns
-    mul-w
-    shared-slice-read-w
-    type-of-requires
-    returns-2
-    status-of-requires-2
-    returns-3
-    format-of-requires
-    step-of-requires
-    enum-told
-    add-t21
-    returns-4
-    enum-told-2
-    enum-told-3
-    returns-5
-    add-p
-    add-at
-    loop-less
-    loop-again
-    returns-6)
+    Inv-loop μ-loop mul-status-of shared-slice-read-status-of status-of-requires loop-holds
+    sub-if1 returns mul-w shared-slice-read-w type-of-requires returns-2 status-of-requires-2
+    returns-3 format-of-requires step-of-requires enum-told add-t21 returns-4 enum-told-2
+    enum-told-3 returns-5 add-p add-at loop-less loop-again returns-6)

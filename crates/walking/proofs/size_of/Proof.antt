@@ -36,4 +36,6 @@ returns-7 c = past _ (le-ltb _ _ (c .before .before .before .if1 .left)) (past _
 
 pub size-of-spec : {M : Type 1} → statement M
 size-of-spec =
-    tie.close (tie.spec returns returns-2 returns-3 returns-4 returns-5 returns-6 returns-7)
+    tie.close
+    (tie.spec
+    returns returns-2 returns-3 returns-4 returns-5 returns-6 returns-7)

@@ -31,4 +31,7 @@ unfolding stepOf
 returns-6 c = past _ (ne-eqb _ _ (c .before .if1 .left)) (past _ (ne-eqb _ _ (c .match2 .rest .0 .1)) (past _ (ne-eqb _ _ (c .match2 .rest .1)) refl))
 
 pub step-of-spec : {M : Type 1} → statement M
-step-of-spec = tie.close (tie.spec returns returns-2 returns-3 returns-4 returns-5 returns-6)
+step-of-spec =
+    tie.close
+    (tie.spec
+    returns returns-2 returns-3 returns-4 returns-5 returns-6)

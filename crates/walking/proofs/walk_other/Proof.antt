@@ -7,22 +7,16 @@ use borrow.Author.Needs.{needs}
 use Rattle.walking.proofs.walk_other.Statement.{statement}
 use Rattle.walking.proofs.walk_other.Tie as tie
 
-size-of-requires : tie.Need-size-of-requires
-size-of-requires c κs = search needs
-
-sub-if1 : tie.Need-sub-if1
-sub-if1 c = search needs
-
 returns : tie.Need-returns
 unfolding otherOf
 returns c = rw (← c .before .size-of .ensures) (here _ (lt-ltb _ _ (c .if1 .taken)) refl)
-
-add-t5 : tie.Need-add-t5
-add-t5 c = search needs
 
 returns-2 : tie.Need-returns-2
 unfolding otherOf
 returns-2 c = rw (← c .before .size-of .ensures) (past _ (le-ltb _ _ (c .if1 .left)) refl)
 
 pub walk-other-spec : {M : Type 1} → statement M
-walk-other-spec = tie.close (tie.spec size-of-requires sub-if1 returns add-t5 returns-2)
+walk-other-spec =
+    tie.close
+    (tie.spec
+    (λ c κs. search needs) (λ c. search needs) returns (λ c. search needs) returns-2)

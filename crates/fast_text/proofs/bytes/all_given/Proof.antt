@@ -7,9 +7,6 @@ use borrow.Author.Needs.{needs}
 use Rattle.fast_text.proofs.bytes.all_given.Statement.{statement}
 use Rattle.fast_text.proofs.bytes.all_given.Tie as tie
 
-past-whole-requires : tie.Need-past-whole-requires
-past-whole-requires c κs = search needs
-
 returns : tie.Need-returns
 returns c =
     let text = c .before .before .before .args .text .now in
@@ -23,4 +20,7 @@ returns-2 : tie.Need-returns-2
 returns-2 c = c .by-tables .ensures ∙ c .before .before .past-whole .ensures .same
 
 pub all-given-spec : {M : Type 1} → statement M
-all-given-spec = tie.close (tie.spec past-whole-requires returns by-tables-requires returns-2)
+all-given-spec =
+    tie.close
+    (tie.spec
+    (λ c κs. search needs) returns by-tables-requires returns-2)

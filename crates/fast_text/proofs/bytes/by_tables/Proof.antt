@@ -64,16 +64,5 @@ pub by-tables-spec : {M : Type 1} → statement M
 by-tables-spec =
     tie.close
     (tie.spec
-    Inv-loop
-    μ-loop
-    loop-holds
-    shared-slice-read-given
-    given-requires
-    returns
-    add-i
-    past-words-requires
-    loop-less
-    loop-again
-    loop-less-2
-    loop-again-2
-    returns-2)
+    Inv-loop μ-loop loop-holds shared-slice-read-given given-requires returns add-i
+    past-words-requires loop-less loop-again loop-less-2 loop-again-2 returns-2)

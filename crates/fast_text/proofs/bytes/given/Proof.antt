@@ -5,19 +5,16 @@ use Rattle.fast_text.specs.Fast.{givenOf}
 use Rattle.fast_text.proofs.bytes.given.Statement.{statement}
 use Rattle.fast_text.proofs.bytes.given.Tie as tie
 
-step-requires : tie.Need-step-requires
-step-requires c κs = search needs
-
 returns : tie.Need-returns
 unfolding givenOf
 returns c = (rw (eq-eqb _ _ (c .before .if1 .taken)) (c .step .ensures .0), search needs)
-
-step-requires-2 : tie.Need-step-requires-2
-step-requires-2 c κs = search needs
 
 returns-2 : tie.Need-returns-2
 unfolding givenOf
 returns-2 c = (rw (ne-eqb _ _ (c .before .if1 .left)) (c .step2 .ensures .0), search needs)
 
 pub given-spec : {M : Type 1} → statement M
-given-spec = tie.close (tie.spec step-requires returns step-requires-2 returns-2)
+given-spec =
+    tie.close
+    (tie.spec
+    (λ c κs. search needs) returns (λ c κs. search needs) returns-2)

@@ -49,15 +49,5 @@ pub past-plain-spec : {M : Type 1} → statement M
 past-plain-spec =
     tie.close
     (tie.spec
-    Inv-loop
-    μ-loop
-    returns
-    sub-last
-    loop-holds
-    joined-requires
-    plain-requires
-    add-i
-    loop-less
-    loop-again
-    returns-2
-    returns-3)
+    Inv-loop μ-loop returns sub-last loop-holds joined-requires plain-requires add-i loop-less
+    loop-again returns-2 returns-3)

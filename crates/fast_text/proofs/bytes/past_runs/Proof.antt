@@ -46,14 +46,5 @@ pub past-runs-spec : {M : Type 1} → statement M
 past-runs-spec =
     tie.close
     (tie.spec
-    Inv-loop
-    μ-loop
-    returns
-    sub-last
-    loop-holds
-    twelve-requires
-    add-i
-    loop-less
-    loop-again
-    returns-2
-    returns-3)
+    Inv-loop μ-loop returns sub-last loop-holds twelve-requires add-i loop-less loop-again
+    returns-2 returns-3)

@@ -4,9 +4,6 @@ use borrow.Author.Needs.{needs}
 use Rattle.fast_text.proofs.bytes.past_whole.Statement.{statement}
 use Rattle.fast_text.proofs.bytes.past_whole.Tie as tie
 
-past-plain-requires : tie.Need-past-plain-requires
-past-plain-requires c κs = search needs
-
 past-runs-requires : tie.Need-past-runs-requires
 past-runs-requires c κs = c .past-plain .ensures .within
 
@@ -23,8 +20,4 @@ pub past-whole-spec : {M : Type 1} → statement M
 past-whole-spec =
     tie.close
     (tie.spec
-    past-plain-requires
-    past-runs-requires
-    past-words-requires
-    past-last-requires
-    returns)
+    (λ c κs. search needs) past-runs-requires past-words-requires past-last-requires returns)

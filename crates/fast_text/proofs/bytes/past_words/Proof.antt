@@ -48,15 +48,5 @@ pub past-words-spec : {M : Type 1} → statement M
 past-words-spec =
     tie.close
     (tie.spec
-    Inv-loop
-    μ-loop
-    returns
-    sub-last
-    loop-holds
-    joined-requires
-    whole-requires
-    returns-2
-    add-i
-    loop-less
-    loop-again
-    returns-3)
+    Inv-loop μ-loop returns sub-last loop-holds joined-requires whole-requires returns-2 add-i
+    loop-less loop-again returns-3)

@@ -5,15 +5,9 @@ use borrow.Author.Needs.{needs}
 use Rattle.fast_text.proofs.bytes.whole.Statement.{statement}
 use Rattle.fast_text.proofs.bytes.whole.Tie as tie
 
-plain-requires : tie.Need-plain-requires
-plain-requires c κs = search needs
-
 returns : tie.Need-returns
 unfolding wholeOf
 returns c = rw (told (c .before .plain .ensures) (c .if1 .taken))
-
-first-three-requires : tie.Need-first-three-requires
-first-three-requires c κs = search needs
 
 returns-2 : tie.Need-returns-2
 unfolding wholeOf
@@ -24,4 +18,7 @@ unfolding wholeOf
 returns-3 c = rw (told (c .before .before .before .plain .ensures) (c .before .before .if1 .left), told (c .before .first-three .ensures) (c .if2 .left))
 
 pub whole-spec : {M : Type 1} → statement M
-whole-spec = tie.close (tie.spec plain-requires returns first-three-requires returns-2 returns-3)
+whole-spec =
+    tie.close
+    (tie.spec
+    (λ c κs. search needs) returns (λ c κs. search needs) returns-2 returns-3)

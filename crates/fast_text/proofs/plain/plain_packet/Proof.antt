@@ -12,39 +12,6 @@ returns : tie.Need-returns
 unfolding plainPacket
 returns c = here _ (le-leb _ _ (c .if1 .taken)) refl
 
-mul-plain-word : tie.Need-mul-plain-word
-mul-plain-word c = search needs
-
-plain-word-requires : tie.Need-plain-word-requires
-plain-word-requires c κs = search needs
-
-mul-plain-word-2 : tie.Need-mul-plain-word-2
-mul-plain-word-2 c = search needs
-
-add-plain-word : tie.Need-add-plain-word
-add-plain-word c = search needs
-
-plain-word-requires-2 : tie.Need-plain-word-requires-2
-plain-word-requires-2 c κs = search needs
-
-mul-plain-word-3 : tie.Need-mul-plain-word-3
-mul-plain-word-3 c = search needs
-
-add-plain-word-2 : tie.Need-add-plain-word-2
-add-plain-word-2 c = search needs
-
-plain-word-requires-3 : tie.Need-plain-word-requires-3
-plain-word-requires-3 c κs = search needs
-
-mul-plain-word-4 : tie.Need-mul-plain-word-4
-mul-plain-word-4 c = search needs
-
-add-plain-word-3 : tie.Need-add-plain-word-3
-add-plain-word-3 c = search needs
-
-plain-word-requires-4 : tie.Need-plain-word-requires-4
-plain-word-requires-4 c κs = search needs
-
 returns-2 : tie.Need-returns-2
 unfolding plainPacket both
 returns-2 c =
@@ -72,19 +39,7 @@ pub plain-packet-spec : {M : Type 1} → statement M
 plain-packet-spec =
     tie.close
     (tie.spec
-    returns
-    mul-plain-word
-    plain-word-requires
-    mul-plain-word-2
-    add-plain-word
-    plain-word-requires-2
-    mul-plain-word-3
-    add-plain-word-2
-    plain-word-requires-3
-    mul-plain-word-4
-    add-plain-word-3
-    plain-word-requires-4
-    returns-2
-    returns-3
-    returns-4
+    returns (λ c. search needs) (λ c κs. search needs) (λ c. search needs) (λ c. search needs)
+    (λ c κs. search needs) (λ c. search needs) (λ c. search needs) (λ c κs. search needs)
+    (λ c. search needs) (λ c. search needs) (λ c κs. search needs) returns-2 returns-3 returns-4
     returns-5)

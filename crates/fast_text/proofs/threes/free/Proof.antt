@@ -10,4 +10,7 @@ returns-2 : tie.Need-returns-2
 returns-2 c = rw (eq-eqb _ _ (c .if1 .left))
 
 pub free-spec : {M : Type 1} → statement M
-free-spec = tie.close (tie.spec returns returns-2)
+free-spec =
+    tie.close
+    (tie.spec
+    returns returns-2)

@@ -7,24 +7,6 @@ use borrow.Author.Needs.{needs}
 use Rattle.fast_text.proofs.threes.from_none.Statement.{statement}
 use Rattle.fast_text.proofs.threes.from_none.Tie as tie
 
-high-requires : tie.Need-high-requires
-high-requires c κs = search needs
-
-tail-requires : tie.Need-tail-requires
-tail-requires c κs = search needs
-
-tail-requires-2 : tie.Need-tail-requires-2
-tail-requires-2 c κs = search needs
-
-high-requires-2 : tie.Need-high-requires-2
-high-requires-2 c κs = search needs
-
-free-requires : tie.Need-free-requires
-free-requires c κs = search needs
-
-free-requires-2 : tie.Need-free-requires-2
-free-requires-2 c κs = search needs
-
 returns : tie.Need-returns
 unfolding fromNone octetOf
 returns c = rw (div-one, told (c .before .before .before .before .before .before .before .before .before .before .high .ensures) (c .before .before .before .before .before .before .before .before .before .if1 .taken), told (c .before .before .before .before .before .before .before .before .tail .ensures) (c .before .before .before .before .before .before .before .if2 .taken), told (c .before .before .before .before .before .before .tail2 .ensures) (c .before .before .before .before .before .if3 .taken), told (c .before .before .before .before .high2 .ensures) (c .before .before .before .if4 .taken), told (c .before .before .free .ensures) (c .before .if5 .taken)) (c .free2 .ensures)
@@ -53,15 +35,6 @@ pub from-none-spec : {M : Type 1} → statement M
 from-none-spec =
     tie.close
     (tie.spec
-    high-requires
-    tail-requires
-    tail-requires-2
-    high-requires-2
-    free-requires
-    free-requires-2
-    returns
-    returns-2
-    returns-3
-    returns-4
-    returns-5
+    (λ c κs. search needs) (λ c κs. search needs) (λ c κs. search needs) (λ c κs. search needs)
+    (λ c κs. search needs) (λ c κs. search needs) returns returns-2 returns-3 returns-4 returns-5
     returns-6)

@@ -7,21 +7,6 @@ use borrow.Author.Needs.{needs}
 use Rattle.fast_text.proofs.threes.from_one.Statement.{statement}
 use Rattle.fast_text.proofs.threes.from_one.Tie as tie
 
-tail-requires : tie.Need-tail-requires
-tail-requires c κs = search needs
-
-high-requires : tie.Need-high-requires
-high-requires c κs = search needs
-
-tail-requires-2 : tie.Need-tail-requires-2
-tail-requires-2 c κs = search needs
-
-tail-requires-3 : tie.Need-tail-requires-3
-tail-requires-3 c κs = search needs
-
-free-requires : tie.Need-free-requires
-free-requires c κs = search needs
-
 returns : tie.Need-returns
 unfolding fromOne octetOf
 returns c = rw (div-one, told (c .before .before .before .before .before .before .before .before .tail .ensures) (c .before .before .before .before .before .before .before .if1 .taken), told (c .before .before .before .before .before .before .high .ensures) (c .before .before .before .before .before .if2 .taken), told (c .before .before .before .before .tail2 .ensures) (c .before .before .before .if3 .taken), told (c .before .before .tail3 .ensures) (c .before .if4 .taken)) (c .free .ensures)
@@ -46,13 +31,5 @@ pub from-one-spec : {M : Type 1} → statement M
 from-one-spec =
     tie.close
     (tie.spec
-    tail-requires
-    high-requires
-    tail-requires-2
-    tail-requires-3
-    free-requires
-    returns
-    returns-2
-    returns-3
-    returns-4
-    returns-5)
+    (λ c κs. search needs) (λ c κs. search needs) (λ c κs. search needs) (λ c κs. search needs)
+    (λ c κs. search needs) returns returns-2 returns-3 returns-4 returns-5)

@@ -7,18 +7,6 @@ use borrow.Author.Needs.{needs}
 use Rattle.fast_text.proofs.threes.last_three.Statement.{statement}
 use Rattle.fast_text.proofs.threes.last_three.Tie as tie
 
-high-requires : tie.Need-high-requires
-high-requires c κs = search needs
-
-tail-requires : tie.Need-tail-requires
-tail-requires c κs = search needs
-
-tail-requires-2 : tie.Need-tail-requires-2
-tail-requires-2 c κs = search needs
-
-free-requires : tie.Need-free-requires
-free-requires c κs = search needs
-
 returns : tie.Need-returns
 unfolding lastThree octetOf
 returns c = rw (div-one, told (c .before .before .before .before .before .before .high .ensures) (c .before .before .before .before .before .if1 .taken), told (c .before .before .before .before .tail .ensures) (c .before .before .before .if2 .taken), told (c .before .before .tail2 .ensures) (c .before .if3 .taken)) (c .free .ensures)
@@ -39,11 +27,5 @@ pub last-three-spec : {M : Type 1} → statement M
 last-three-spec =
     tie.close
     (tie.spec
-    high-requires
-    tail-requires
-    tail-requires-2
-    free-requires
-    returns
-    returns-2
-    returns-3
-    returns-4)
+    (λ c κs. search needs) (λ c κs. search needs) (λ c κs. search needs) (λ c κs. search needs)
+    returns returns-2 returns-3 returns-4)

@@ -4,12 +4,6 @@ use borrow.Author.Needs.{needs}
 use Rattle.fast_text.proofs.threes.lead.Statement.{statement}
 use Rattle.fast_text.proofs.threes.lead.Tie as tie
 
-high-requires : tie.Need-high-requires
-high-requires c κs = search needs
-
-free-requires : tie.Need-free-requires
-free-requires c κs = search needs
-
 returns : tie.Need-returns
 returns c = rw (told (c .before .before .high .ensures) (c .before .if1 .taken)) (c .free .ensures)
 
@@ -17,4 +11,7 @@ returns-2 : tie.Need-returns-2
 returns-2 c = rw (told (c .before .high .ensures) (c .if1 .left)) (c .if1 .left)
 
 pub lead-spec : {M : Type 1} → statement M
-lead-spec = tie.close (tie.spec high-requires free-requires returns returns-2)
+lead-spec =
+    tie.close
+    (tie.spec
+    (λ c κs. search needs) (λ c κs. search needs) returns returns-2)

@@ -6,15 +6,6 @@ use borrow.Author.Needs.{needs}
 use Rattle.fast_text.proofs.threes.quad.Statement.{statement}
 use Rattle.fast_text.proofs.threes.quad.Tie as tie
 
-from-none-requires : tie.Need-from-none-requires
-from-none-requires c κs = search needs
-
-from-one-requires : tie.Need-from-one-requires
-from-one-requires c κs = search needs
-
-from-two-requires : tie.Need-from-two-requires
-from-two-requires c κs = search needs
-
 returns : tie.Need-returns
 unfolding quadOf
 returns c = rw (eq-eqb (c .before .before .args .s) 0 (omega arith)) (c .from-none .ensures)
@@ -35,10 +26,5 @@ pub quad-spec : {M : Type 1} → statement M
 quad-spec =
     tie.close
     (tie.spec
-    from-none-requires
-    from-one-requires
-    from-two-requires
-    returns
-    returns-2
-    returns-3
-    returns-4)
+    (λ c κs. search needs) (λ c κs. search needs) (λ c κs. search needs) returns returns-2
+    returns-3 returns-4)

@@ -7,33 +7,6 @@ use borrow.Author.Needs.{needs}
 use Rattle.fast_text.proofs.threes.run.Statement.{statement}
 use Rattle.fast_text.proofs.threes.run.Tie as tie
 
-from-none-requires : tie.Need-from-none-requires
-from-none-requires c κs = search needs
-
-from-two-requires : tie.Need-from-two-requires
-from-two-requires c κs = search needs
-
-from-one-requires : tie.Need-from-one-requires
-from-one-requires c κs = search needs
-
-from-one-requires-2 : tie.Need-from-one-requires-2
-from-one-requires-2 c κs = search needs
-
-from-none-requires-2 : tie.Need-from-none-requires-2
-from-none-requires-2 c κs = search needs
-
-from-two-requires-2 : tie.Need-from-two-requires-2
-from-two-requires-2 c κs = search needs
-
-from-two-requires-3 : tie.Need-from-two-requires-3
-from-two-requires-3 c κs = search needs
-
-from-one-requires-3 : tie.Need-from-one-requires-3
-from-one-requires-3 c κs = search needs
-
-from-none-requires-3 : tie.Need-from-none-requires-3
-from-none-requires-3 c κs = search needs
-
 returns : tie.Need-returns
 unfolding runOf
 returns c = rw (eq-eqb (c .before .before .before .before .before .before .args .s) 0 (omega arith), told (c .before .before .before .before .from-none .ensures) (c .before .before .before .if1 .taken), told (c .before .before .from-two .ensures) (c .before .if2 .taken)) (c .from-one .ensures)
@@ -78,22 +51,7 @@ pub run-spec : {M : Type 1} → statement M
 run-spec =
     tie.close
     (tie.spec
-    from-none-requires
-    from-two-requires
-    from-one-requires
-    from-one-requires-2
-    from-none-requires-2
-    from-two-requires-2
-    from-two-requires-3
-    from-one-requires-3
-    from-none-requires-3
-    returns
-    returns-2
-    returns-3
-    returns-4
-    returns-5
-    returns-6
-    returns-7
-    returns-8
-    returns-9
-    returns-10)
+    (λ c κs. search needs) (λ c κs. search needs) (λ c κs. search needs) (λ c κs. search needs)
+    (λ c κs. search needs) (λ c κs. search needs) (λ c κs. search needs) (λ c κs. search needs)
+    (λ c κs. search needs) returns returns-2 returns-3 returns-4 returns-5 returns-6 returns-7
+    returns-8 returns-9 returns-10)

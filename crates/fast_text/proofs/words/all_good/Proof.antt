@@ -98,28 +98,7 @@ pub all-good-spec : {M : Type 1} → statement M
 all-good-spec =
     tie.close
     (tie.spec
-    Inv-loop
-    μ-loop
-    mask-requires
-    mask-requires-2
-    mask-requires-3
-    mask-requires-4
-    loop-holds
-    mul-k
-    mul-packet
-    shared-slice-read-packet
-    add-packet
-    mul-packet-2
-    shared-slice-read-packet-2
-    add-packet-2
-    mul-packet-3
-    shared-slice-read-packet-3
-    add-packet-3
-    mul-packet-4
-    shared-slice-read-packet-4
-    packet-requires
-    returns
-    add-p
-    loop-less
-    loop-again
-    returns-2)
+    Inv-loop μ-loop mask-requires mask-requires-2 mask-requires-3 mask-requires-4 loop-holds mul-k
+    mul-packet shared-slice-read-packet add-packet mul-packet-2 shared-slice-read-packet-2
+    add-packet-2 mul-packet-3 shared-slice-read-packet-3 add-packet-3 mul-packet-4
+    shared-slice-read-packet-4 packet-requires returns add-p loop-less loop-again returns-2)

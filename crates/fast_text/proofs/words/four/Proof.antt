@@ -15,12 +15,6 @@ returns : tie.Need-returns
 unfolding octetOf
 returns c = let h = c .if1 .taken in (rw (sym (c .before .half .ensures .0)) (zeros-stay _ _ _ (c .before .half .ensures .1) (omega arith) (omega arith)), c .before .half .ensures .1)
 
-cast-two : tie.Need-cast-two
-cast-two c = search needs
-
-cast-two-2 : tie.Need-cast-two-2
-cast-two-2 c = search needs
-
 two-requires : tie.Need-two-requires
 two-requires c κs = c .before .half .ensures .1
 
@@ -29,4 +23,7 @@ unfolding octetOf
 returns-2 c = (rw (c .two .ensures .0, c .before .before .half .ensures .0, div-one), c .two .ensures .1)
 
 pub four-spec : {M : Type 1} → statement M
-four-spec = tie.close (tie.spec half-requires returns cast-two cast-two-2 two-requires returns-2)
+four-spec =
+    tie.close
+    (tie.spec
+    half-requires returns (λ c. search needs) (λ c. search needs) two-requires returns-2)

@@ -10,12 +10,6 @@ returns : tie.Need-returns
 unfolding octetOf
 returns c = let h = c .if1 .taken in (zeros-stay _ _ _ (c .before .pre) (omega arith) (omega arith), c .before .pre)
 
-cast-two : tie.Need-cast-two
-cast-two c = search needs
-
-cast-two-2 : tie.Need-cast-two-2
-cast-two-2 c = search needs
-
 two-requires : tie.Need-two-requires
 two-requires c κs = c .before .pre
 
@@ -24,4 +18,7 @@ unfolding octetOf
 returns-2 c = c .two .ensures
 
 pub half-spec : {M : Type 1} → statement M
-half-spec = tie.close (tie.spec returns cast-two cast-two-2 two-requires returns-2)
+half-spec =
+    tie.close
+    (tie.spec
+    returns (λ c. search needs) (λ c. search needs) two-requires returns-2)

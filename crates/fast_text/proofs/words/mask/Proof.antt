@@ -15,9 +15,6 @@ returns : tie.Need-returns
 unfolding maskOf bitsOf
 returns c = let z : c .before .args .end - c .before .args .offset ≡ 0 = omega arith in rw z
 
-sub-match : tie.Need-sub-match
-sub-match c = search needs
-
 returns-2 : tie.Need-returns-2
 unfolding maskOf bitsOf
 returns-2 c = rw (c .match .keys1)
@@ -37,4 +34,7 @@ returns-5 c =
     rw (le-ltb n 4 (many n (omega arith) (c .match .rest .0 .0 .1) (c .match .rest .0 .1) (c .match .rest .1)))
 
 pub mask-spec : {M : Type 1} → statement M
-mask-spec = tie.close (tie.spec returns sub-match returns-2 returns-3 returns-4 returns-5)
+mask-spec =
+    tie.close
+    (tie.spec
+    returns (λ c. search needs) returns-2 returns-3 returns-4 returns-5)

@@ -6,18 +6,6 @@ use borrow.Author.Needs.{needs}
 use Rattle.fast_text.proofs.words.packet.Statement.{statement}
 use Rattle.fast_text.proofs.words.packet.Tie as tie
 
-plain-requires : tie.Need-plain-requires
-plain-requires c κs = search needs
-
-plain-requires-2 : tie.Need-plain-requires-2
-plain-requires-2 c κs = search needs
-
-plain-requires-3 : tie.Need-plain-requires-3
-plain-requires-3 c κs = search needs
-
-plain-requires-4 : tie.Need-plain-requires-4
-plain-requires-4 c κs = search needs
-
 returns : tie.Need-returns
 returns c = (rw (c .before .before .before .before .before .before .before .before .if1 .taken, plain-four _ (told (c .before .before .before .before .before .before .before .plain .ensures) (c .before .before .before .before .before .before .if2 .taken)), plain-four _ (told (c .before .before .before .before .before .plain2 .ensures) (c .before .before .before .before .if3 .taken)), plain-four _ (told (c .before .before .before .plain3 .ensures) (c .before .before .if4 .taken)), plain-four _ (told (c .before .plain4 .ensures) (c .if5 .taken))), code-zero)
 
@@ -34,11 +22,5 @@ pub packet-spec : {M : Type 1} → statement M
 packet-spec =
     tie.close
     (tie.spec
-    plain-requires
-    plain-requires-2
-    plain-requires-3
-    plain-requires-4
-    returns
-    four-requires
-    three-requires
-    returns-2)
+    (λ c κs. search needs) (λ c κs. search needs) (λ c κs. search needs) (λ c κs. search needs)
+    returns four-requires three-requires returns-2)

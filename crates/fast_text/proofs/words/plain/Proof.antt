@@ -23,4 +23,7 @@ unfolding plainOf octetOf
 returns-4 c = rw (lt-ltb _ _ (c .before .before .if1 .left), lt-ltb _ _ (c .before .if2 .left), lt-ltb _ _ (c .if3 .left), div-one)
 
 pub plain-spec : {M : Type 1} → statement M
-plain-spec = tie.close (tie.spec returns returns-2 returns-3 returns-4)
+plain-spec =
+    tie.close
+    (tie.spec
+    returns returns-2 returns-3 returns-4)

@@ -6,9 +6,6 @@ use borrow.Author.Needs.{needs}
 use Rattle.fast_text.proofs.words.three.Statement.{statement}
 use Rattle.fast_text.proofs.words.three.Tie as tie
 
-run-requires : tie.Need-run-requires
-run-requires c κs = search needs
-
 returns : tie.Need-returns
 returns c = (sym (run-leads _ _ _ _ (told (c .before .run .ensures) (c .if1 .taken))), c .before .before .pre)
 
@@ -27,4 +24,5 @@ returns-2 c = (rw (c .word3 .ensures .0, c .before .word2 .ensures .0, c .before
 pub three-spec : {M : Type 1} → statement M
 three-spec =
     tie.close
-    (tie.spec run-requires returns word-requires word-requires-2 word-requires-3 returns-2)
+    (tie.spec
+    (λ c κs. search needs) returns word-requires word-requires-2 word-requires-3 returns-2)

@@ -8,9 +8,6 @@ use borrow.Author.Needs.{needs}
 use Rattle.fast_text.proofs.words.two.Statement.{statement}
 use Rattle.fast_text.proofs.words.two.Tie as tie
 
-pair-requires : tie.Need-pair-requires
-pair-requires c κs = search needs
-
 add-result : tie.Need-add-result
 add-result c = omega (arith, c .before .before .pre .below)
 
@@ -20,12 +17,11 @@ returns c = coded (pair-leads _ _ _ (search needs) (search needs) (told (c .befo
 step-requires : tie.Need-step-requires
 step-requires c κs = omega (arith, c .before .before .pre .below)
 
-step-requires-2 : tie.Need-step-requires-2
-step-requires-2 c κs = search needs
-
 returns-2 : tie.Need-returns-2
 returns-2 c = coded (sym (c .step2 .ensures .0 ∙ rw (c .before .step .ensures .0))) (code-two _ _ _ (c .before .before .before .before .pre) (search needs) (search needs))
 
 pub two-spec : {M : Type 1} → statement M
 two-spec =
-    tie.close (tie.spec pair-requires add-result returns step-requires step-requires-2 returns-2)
+    tie.close
+    (tie.spec
+    (λ c κs. search needs) add-result returns step-requires (λ c κs. search needs) returns-2)

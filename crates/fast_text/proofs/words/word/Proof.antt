@@ -7,17 +7,11 @@ use borrow.Author.Needs.{needs}
 use Rattle.fast_text.proofs.words.word.Statement.{statement}
 use Rattle.fast_text.proofs.words.word.Tie as tie
 
-quad-requires : tie.Need-quad-requires
-quad-requires c κs = search needs
-
 add-result : tie.Need-add-result
 add-result c = omega (arith, c .before .before .pre .below)
 
 returns : tie.Need-returns
 returns c = coded (quad-leads _ _ (told (c .before .quad .ensures) (c .if1 .taken))) (code-four _ _ (c .before .before .pre))
-
-plain-requires : tie.Need-plain-requires
-plain-requires c κs = search needs
 
 returns-2 : tie.Need-returns-2
 returns-2 c = coded (rw (c .before .before .if2 .taken) (plain-four _ (told (c .before .plain .ensures) (c .if3 .taken)))) (code-four _ _ (c .before .before .before .before .before .pre))
@@ -31,4 +25,6 @@ returns-3 c = c .four .ensures
 pub word-spec : {M : Type 1} → statement M
 word-spec =
     tie.close
-    (tie.spec quad-requires add-result returns plain-requires returns-2 four-requires returns-3)
+    (tie.spec
+    (λ c κs. search needs) add-result returns (λ c κs. search needs) returns-2 four-requires
+    returns-3)

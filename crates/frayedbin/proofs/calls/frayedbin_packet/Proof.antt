@@ -3,14 +3,11 @@ use borrow.Author.Needs.{needs}
 use Rattle.frayedbin.proofs.calls.frayedbin_packet.Statement.{statement}
 use Rattle.frayedbin.proofs.calls.frayedbin_packet.Tie as tie
 
-packet-requires : tie.Need-packet-requires
-packet-requires c κs = search needs
-
-of-packet-requires : tie.Need-of-packet-requires
-of-packet-requires c κs = search needs
-
 returns : tie.Need-returns
 returns c = rw (c .of-packet .ensures, c .before .packet .ensures)
 
 pub frayedbin-packet-spec : {M : Type 1} → statement M
-frayedbin-packet-spec = tie.close (tie.spec packet-requires of-packet-requires returns)
+frayedbin-packet-spec =
+    tie.close
+    (tie.spec
+    (λ c κs. search needs) (λ c κs. search needs) returns)

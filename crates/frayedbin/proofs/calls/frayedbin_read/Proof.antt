@@ -3,14 +3,11 @@ use borrow.Author.Needs.{needs}
 use Rattle.frayedbin.proofs.calls.frayedbin_read.Statement.{statement}
 use Rattle.frayedbin.proofs.calls.frayedbin_read.Tie as tie
 
-read-requires : tie.Need-read-requires
-read-requires c κs = search needs
-
-of-read-requires : tie.Need-of-read-requires
-of-read-requires c κs = search needs
-
 returns : tie.Need-returns
 returns c = rw (c .of-read .ensures, c .before .read .ensures)
 
 pub frayedbin-read-spec : {M : Type 1} → statement M
-frayedbin-read-spec = tie.close (tie.spec read-requires of-read-requires returns)
+frayedbin-read-spec =
+    tie.close
+    (tie.spec
+    (λ c κs. search needs) (λ c κs. search needs) returns)

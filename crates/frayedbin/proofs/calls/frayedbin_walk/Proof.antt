@@ -3,14 +3,11 @@ use borrow.Author.Needs.{needs}
 use Rattle.frayedbin.proofs.calls.frayedbin_walk.Statement.{statement}
 use Rattle.frayedbin.proofs.calls.frayedbin_walk.Tie as tie
 
-walk-requires : tie.Need-walk-requires
-walk-requires c κs = search needs
-
-of-walked-requires : tie.Need-of-walked-requires
-of-walked-requires c κs = search needs
-
 returns : tie.Need-returns
 returns c = rw (c .of-walked .ensures, c .before .walk .ensures)
 
 pub frayedbin-walk-spec : {M : Type 1} → statement M
-frayedbin-walk-spec = tie.close (tie.spec walk-requires of-walked-requires returns)
+frayedbin-walk-spec =
+    tie.close
+    (tie.spec
+    (λ c κs. search needs) (λ c κs. search needs) returns)

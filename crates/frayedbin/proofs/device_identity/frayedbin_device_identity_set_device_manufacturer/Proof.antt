@@ -5,18 +5,11 @@ use Rattle.frayedbin.proofs.device_identity.frayedbin_device_identity_s
 }
 use Rattle.frayedbin.proofs.device_identity.frayedbin_device_identity_set_device_manufacturer.Tie as tie
 
-set-device-manufacturer-requires : tie.Need-set-device-manufacturer-requires
-set-device-manufacturer-requires c κs = search needs
-
-of-answer-requires : tie.Need-of-answer-requires
-of-answer-requires c κs = search needs
-
-same-length : tie.Need-same-length
-same-length c = search needs
-
 returns : tie.Need-returns
 returns c = (rw (c .of-answer .ensures, c .before .before .before .set-device-manufacturer .ensures .0), c .before .before .before .set-device-manufacturer .ensures .1)
 
 pub frayedbin-device-identity-set-device-manufacturer-spec : {M : Type 1} → statement M
 frayedbin-device-identity-set-device-manufacturer-spec =
-    tie.close (tie.spec set-device-manufacturer-requires of-answer-requires same-length returns)
+    tie.close
+    (tie.spec
+    (λ c κs. search needs) (λ c κs. search needs) (λ c. search needs) returns)

@@ -5,18 +5,11 @@ use Rattle.frayedbin.proofs.function_block_name.frayedbin_function_bloc
 }
 use Rattle.frayedbin.proofs.function_block_name.frayedbin_function_block_name_set_function_block.Tie as tie
 
-set-function-block-requires : tie.Need-set-function-block-requires
-set-function-block-requires c κs = search needs
-
-of-answer-requires : tie.Need-of-answer-requires
-of-answer-requires c κs = search needs
-
-same-length : tie.Need-same-length
-same-length c = search needs
-
 returns : tie.Need-returns
 returns c = (rw (c .of-answer .ensures, c .before .before .before .set-function-block .ensures .0), c .before .before .before .set-function-block .ensures .1)
 
 pub frayedbin-function-block-name-set-function-block-spec : {M : Type 1} → statement M
 frayedbin-function-block-name-set-function-block-spec =
-    tie.close (tie.spec set-function-block-requires of-answer-requires same-length returns)
+    tie.close
+    (tie.spec
+    (λ c κs. search needs) (λ c κs. search needs) (λ c. search needs) returns)

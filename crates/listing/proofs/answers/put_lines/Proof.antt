@@ -45,13 +45,5 @@ pub put-lines-spec : {M : Type 1} → statement M
 put-lines-spec =
     tie.close
     (tie.spec
-    Inv-loop
-    μ-loop
-    loop-holds
-    walk-requires
-    put-line-requires
-    next-of-requires
-    loop-less
-    loop-again
-    same-length
-    returns)
+    Inv-loop μ-loop loop-holds walk-requires put-line-requires next-of-requires loop-less
+    loop-again same-length returns)

@@ -5,8 +5,8 @@ use native.Mathlib.Omega.{arith}
 use lib.ListN.{length}
 use Rattle.laws.specs.Lists.{each}
 use Rattle.text.specs.Bytes.{textOf}
-use Rattle.lines.specs.Numbers.{hexByte}
-use Rattle.lines.proofs.Page.{Left, left-all, left-turn, left-none}
+use Rattle.ascii_lines.specs.Numbers.{hexByte}
+use Rattle.ascii_lines.proofs.Page.{Left, left-all, left-turn, left-none}
 use Rattle.listing.proofs.Ahead.{Ahead, ahead, ahead-all, ahead-start, hex-more, ahead-more, ahead-less, hex-none}
 use borrow.Author.Needs.{needs}
 use Rattle.listing.proofs.shown.put_bytes.Statement.{statement}
@@ -60,15 +60,5 @@ pub put-bytes-spec : {M : Type 1} → statement M
 put-bytes-spec =
     tie.close
     (tie.spec
-    Inv-loop
-    μ-loop
-    start-requires
-    loop-holds
-    step-requires
-    enum-told
-    same-length
-    returns
-    enum-known-found
-    put-hex-requires
-    loop-less
-    loop-again)
+    Inv-loop μ-loop start-requires loop-holds step-requires enum-told same-length returns
+    enum-known-found put-hex-requires loop-less loop-again)

@@ -43,14 +43,5 @@ pub build-spec : {M : Type 1} → statement M
 build-spec =
     tie.close
     (tie.spec
-    Inv-loop
-    μ-loop
-    begin-requires
-    fields-requires
-    loop-holds
-    apply-requires
-    add-i
-    loop-less
-    loop-again
-    same-length
-    returns)
+    Inv-loop μ-loop begin-requires fields-requires loop-holds apply-requires add-i loop-less
+    loop-again same-length returns)

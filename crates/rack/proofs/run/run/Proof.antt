@@ -58,19 +58,5 @@ pub run-spec : {M : Type 1} → statement M
 run-spec =
     tie.close
     (tie.spec
-    Inv-loop
-    μ-loop
-    starting-requires
-    begin-requires
-    apply-requires
-    mul-t17
-    add-t19
-    loop-holds
-    one-more-requires
-    add-i
-    loop-less
-    loop-again
-    same-length
-    same-length-2
-    same-length-3
-    returns)
+    Inv-loop μ-loop starting-requires begin-requires apply-requires mul-t17 add-t19 loop-holds
+    one-more-requires add-i loop-less loop-again same-length same-length-2 same-length-3 returns)

@@ -64,21 +64,6 @@ pub same-spec : {M : Type 1} → statement M
 same-spec =
     tie.close
     (tie.spec
-    Inv-loop
-    μ-loop
-    returns
-    mul-whole
-    loop-holds
-    mul-if2
-    shared-slice-read-if2
-    mul-if2-2
-    shared-slice-read-if2-2
-    returns-2
-    mul-if4
-    shared-slice-read-if4
-    found-requires
-    returns-3
-    add-i
-    loop-less
-    loop-again
-    returns-4)
+    Inv-loop μ-loop returns mul-whole loop-holds mul-if2 shared-slice-read-if2 mul-if2-2
+    shared-slice-read-if2-2 returns-2 mul-if4 shared-slice-read-if4 found-requires returns-3 add-i
+    loop-less loop-again returns-4)

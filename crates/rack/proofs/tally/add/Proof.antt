@@ -58,19 +58,6 @@ pub add-spec : {M : Type 1} → statement M
 add-spec =
     tie.close
     (tie.spec
-    Inv-loop
-    μ-loop
-    returns
-    loop-holds
-    mul-wrapping-add-u64
-    slice-read-wrapping-add-u64
-    mul-wrapping-add-u64-2
-    shared-slice-read-wrapping-add-u64
-    wrapping-add-u64-requires
-    mul-all
-    slice-write-all
-    add-i
-    loop-less
-    loop-again
-    same-length
-    returns-2)
+    Inv-loop μ-loop returns loop-holds mul-wrapping-add-u64 slice-read-wrapping-add-u64
+    mul-wrapping-add-u64-2 shared-slice-read-wrapping-add-u64 wrapping-add-u64-requires mul-all
+    slice-write-all add-i loop-less loop-again same-length returns-2)

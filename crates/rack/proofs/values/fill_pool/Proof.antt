@@ -40,13 +40,5 @@ pub fill-pool-spec : {M : Type 1} → statement M
 fill-pool-spec =
     tie.close
     (tie.spec
-    Inv-loop
-    μ-loop
-    loop-holds
-    element-copy-out-pool
-    slice-write-pool
-    add-i
-    loop-less
-    loop-again
-    same-length
-    returns)
+    Inv-loop μ-loop loop-holds element-copy-out-pool slice-write-pool add-i loop-less loop-again
+    same-length returns)

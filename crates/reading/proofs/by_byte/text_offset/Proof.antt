@@ -14,12 +14,6 @@ returns : tie.Need-returns
 unfolding offsetHere layout
 returns c = rw (List·getD-eq-default (c .before .before .args .words .now) 0 {n = 0} (omega arith))
 
-shared-slice-read-status-of : tie.Need-shared-slice-read-status-of
-shared-slice-read-status-of c = search needs
-
-status-of-requires : tie.Need-status-of-requires
-status-of-requires c κs = search needs
-
 returns-2 : tie.Need-returns-2
 unfolding offsetHere layout
 returns-2 c = here _ (eq-eqb _ 0x12 (sym (c .before .status-of .ensures) ∙ c .if2 .taken)) refl
@@ -30,4 +24,6 @@ returns-3 c = past _ (ne-eqb _ 0x12 (λ e. c .if2 .left (c .before .status-of .e
 
 pub text-offset-spec : {M : Type 1} → statement M
 text-offset-spec =
-    tie.close (tie.spec returns shared-slice-read-status-of status-of-requires returns-2 returns-3)
+    tie.close
+    (tie.spec
+    returns (λ c. search needs) (λ c κs. search needs) returns-2 returns-3)

@@ -13,4 +13,7 @@ returns-3 : tie.Need-returns-3
 returns-3 c = simp (ne-eqb _ _ (c .match .rest .0 .1), ne-eqb _ _ (c .match .rest .1))
 
 pub direction-spec : {M : Type 1} → statement M
-direction-spec = tie.close (tie.spec returns returns-2 returns-3)
+direction-spec =
+    tie.close
+    (tie.spec
+    returns returns-2 returns-3)

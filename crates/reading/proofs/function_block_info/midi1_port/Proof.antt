@@ -13,4 +13,7 @@ returns-3 : tie.Need-returns-3
 returns-3 c = simp (ne-eqb _ _ (c .match .rest .0 .1), ne-eqb _ _ (c .match .rest .1))
 
 pub midi1-port-spec : {M : Type 1} → statement M
-midi1-port-spec = tie.close (tie.spec returns returns-2 returns-3)
+midi1-port-spec =
+    tie.close
+    (tie.spec
+    returns returns-2 returns-3)

@@ -15,25 +15,13 @@ use borrow.Author.Needs.{needs}
 use Rattle.reading.proofs.function_block_info.read.Statement.{statement}
 use Rattle.reading.proofs.function_block_info.read.Tie as tie
 
-shared-slice-read-a : tie.Need-shared-slice-read-a
-shared-slice-read-a c = search needs
-
-crumb-requires : tie.Need-crumb-requires
-crumb-requires c κs = search needs
-
 returns : tie.Need-returns
 unfolding readBody valuesIn layout those map held joined same decided get partIn
 returns c = here _ (eq-eqb _ 3 (sym (c .before .crumb .ensures) ∙ c .if1 .taken)) refl
 
-crumb-requires-2 : tie.Need-crumb-requires-2
-crumb-requires-2 c κs = search needs
-
 returns-2 : tie.Need-returns-2
 unfolding readBody valuesIn layout those map held joined same decided get partIn
 returns-2 c = past _ (ne-eqb _ 3 (λ e. c .before .before .if1 .left (c .before .before .before .crumb .ensures ∙ e))) (here _ (eq-eqb _ 0 (sym (c .before .crumb2 .ensures) ∙ c .if2 .taken)) refl)
-
-message-requires : tie.Need-message-requires
-message-requires c κs = search needs
 
 returns-3 : tie.Need-returns-3
 unfolding readBody valuesIn layout those map held joined same decided get partIn
@@ -43,10 +31,5 @@ pub read-spec : {M : Type 1} → statement M
 read-spec =
     tie.close
     (tie.spec
-    shared-slice-read-a
-    crumb-requires
-    returns
-    crumb-requires-2
-    returns-2
-    message-requires
-    returns-3)
+    (λ c. search needs) (λ c κs. search needs) returns (λ c κs. search needs) returns-2
+    (λ c κs. search needs) returns-3)

@@ -16,4 +16,7 @@ returns-4 : tie.Need-returns-4
 returns-4 c = simp (ne-eqb _ _ (c .match .rest .0 .0 .1), ne-eqb _ _ (c .match .rest .0 .1), ne-eqb _ _ (c .match .rest .1))
 
 pub ui-hint-spec : {M : Type 1} → statement M
-ui-hint-spec = tie.close (tie.spec returns returns-2 returns-3 returns-4)
+ui-hint-spec =
+    tie.close
+    (tie.spec
+    returns returns-2 returns-3 returns-4)

@@ -9,15 +9,12 @@ use borrow.Author.Needs.{needs}
 use Rattle.reading.proofs.function_block_name.message.Statement.{statement}
 use Rattle.reading.proofs.function_block_name.message.Tie as tie
 
-shared-slice-read-octet : tie.Need-shared-slice-read-octet
-shared-slice-read-octet c = search needs
-
-octet-requires : tie.Need-octet-requires
-octet-requires c κs = search needs
-
 returns : tie.Need-returns
 unfolding recordOf valuesIn layout those map held joined same decided get partIn
 returns c = rw (c .octet .ensures)
 
 pub message-spec : {M : Type 1} → statement M
-message-spec = tie.close (tie.spec shared-slice-read-octet octet-requires returns)
+message-spec =
+    tie.close
+    (tie.spec
+    (λ c. search needs) (λ c κs. search needs) returns)

@@ -4,12 +4,12 @@ use borrow.Author.Needs.{needs}
 use Rattle.reading.proofs.heads.format_of.Statement.{statement}
 use Rattle.reading.proofs.heads.format_of.Tie as tie
 
-crumb-requires : tie.Need-crumb-requires
-crumb-requires c κs = search needs
-
 returns : tie.Need-returns
 unfolding partIn
 returns c = c .crumb .ensures
 
 pub format-of-spec : {M : Type 1} → statement M
-format-of-spec = tie.close (tie.spec crumb-requires returns)
+format-of-spec =
+    tie.close
+    (tie.spec
+    (λ c κs. search needs) returns)

@@ -41,4 +41,5 @@ returns-8 c = let r = c .match .rest in past _ (ne-eqb _ _ (r .0 .0 .0 .0 .0 .0 
 pub kind-of-spec : {M : Type 1} → statement M
 kind-of-spec =
     tie.close
-    (tie.spec returns returns-2 returns-3 returns-4 returns-5 returns-6 returns-7 returns-8)
+    (tie.spec
+    returns returns-2 returns-3 returns-4 returns-5 returns-6 returns-7 returns-8)

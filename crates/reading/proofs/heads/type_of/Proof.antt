@@ -4,12 +4,12 @@ use borrow.Author.Needs.{needs}
 use Rattle.reading.proofs.heads.type_of.Statement.{statement}
 use Rattle.reading.proofs.heads.type_of.Tie as tie
 
-nibble-requires : tie.Need-nibble-requires
-nibble-requires c κs = search needs
-
 returns : tie.Need-returns
 unfolding partIn
 returns c = c .nibble .ensures
 
 pub type-of-spec : {M : Type 1} → statement M
-type-of-spec = tie.close (tie.spec nibble-requires returns)
+type-of-spec =
+    tie.close
+    (tie.spec
+    (λ c κs. search needs) returns)

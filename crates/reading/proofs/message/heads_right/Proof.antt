@@ -7,26 +7,14 @@ use borrow.Author.Needs.{needs}
 use Rattle.reading.proofs.message.heads_right.Statement.{statement}
 use Rattle.reading.proofs.message.heads_right.Tie as tie
 
-most-packets-requires : tie.Need-most-packets-requires
-most-packets-requires c κs = search needs
-
 returns : tie.Need-returns
 returns c = too-many _ _ _ (rw (c .before .most-packets .ensures) at (c .if1 .taken))
-
-repeats-field-requires : tie.Need-repeats-field-requires
-repeats-field-requires c κs = search needs
-
-headed-packets-requires : tie.Need-headed-packets-requires
-headed-packets-requires c κs = search needs
 
 returns-2 : tie.Need-returns-2
 returns-2 c =
     let d = c .before .before in
     let most = d .before .before in
     not-many _ _ _ true _ (rw (most .before .most-packets .ensures) at (most .if1 .left)) (sym (d .before .repeats-field .ensures) ∙ d .if2 .taken) (ap (λ (x : PacketNumber). x .0) (c .before .headed-packets .ensures))
-
-headed-packets-requires-2 : tie.Need-headed-packets-requires-2
-headed-packets-requires-2 c κs = search needs
 
 returns-3 : tie.Need-returns-3
 returns-3 c =
@@ -38,10 +26,5 @@ pub heads-right-spec : {M : Type 1} → statement M
 heads-right-spec =
     tie.close
     (tie.spec
-    most-packets-requires
-    returns
-    repeats-field-requires
-    headed-packets-requires
-    returns-2
-    headed-packets-requires-2
-    returns-3)
+    (λ c κs. search needs) returns (λ c κs. search needs) (λ c κs. search needs) returns-2
+    (λ c κs. search needs) returns-3)

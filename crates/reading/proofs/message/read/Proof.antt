@@ -22,26 +22,8 @@ returns-3 : tie.Need-returns-3
 unfolding readOf
 returns-3 c = past _ (le-ltb _ _ (c .before .before .if1 .left)) (past _ (eq-differ _ 0 (c .before .if2 .left)) (here _ (lt-ltb _ _ (c .if3 .taken)) refl))
 
-mul-to : tie.Need-mul-to
-mul-to c = search needs
-
 slice-aggregate-packets : tie.Need-slice-aggregate-packets
 slice-aggregate-packets c = all-count (c .before .before .before .before .before .args .words .now) (c .before .before .before .if1 .left) (c .before .before .if2 .left)
-
-shared-slice-read-status-of : tie.Need-shared-slice-read-status-of
-shared-slice-read-status-of c = search needs
-
-status-of-requires : tie.Need-status-of-requires
-status-of-requires c κs = search needs
-
-kind-of-requires : tie.Need-kind-of-requires
-kind-of-requires c κs = search needs
-
-enum-known-kind : tie.Need-enum-known-kind
-enum-known-kind c = search needs
-
-heads-right-requires : tie.Need-heads-right-requires
-heads-right-requires c κs = search needs
 
 read-body-requires : tie.Need-read-body-requires
 read-body-requires c κs =
@@ -54,9 +36,6 @@ returns-4 c =
     let d = k .before .before .before .before .before .before in
     let known = ap (λ (x : ℕ). kindOf x) (sym (k .before .before .before .status-of .ensures)) ∙ sym (k .before .before .kind-of .ensures) ∙ k .kind .given .1 in
     c .read-body .ensures ∙ all-headed _ (d .before .before .if1 .left) (d .before .if2 .left) _ known (sym (c .before .before .heads-right .ensures) ∙ c .before .if4 .taken)
-
-enum-told : tie.Need-enum-told
-enum-told c = search needs
 
 read-rules-requires : tie.Need-read-rules-requires
 read-rules-requires c κs =
@@ -72,18 +51,6 @@ pub read-spec : {M : Type 1} → statement M
 read-spec =
     tie.close
     (tie.spec
-    returns
-    returns-2
-    returns-3
-    mul-to
-    slice-aggregate-packets
-    shared-slice-read-status-of
-    status-of-requires
-    kind-of-requires
-    enum-known-kind
-    heads-right-requires
-    read-body-requires
-    returns-4
-    enum-told
-    read-rules-requires
-    returns-5)
+    returns returns-2 returns-3 (λ c. search needs) slice-aggregate-packets (λ c. search needs)
+    (λ c κs. search needs) (λ c κs. search needs) (λ c. search needs) (λ c κs. search needs)
+    read-body-requires returns-4 (λ c. search needs) read-rules-requires returns-5)

@@ -13,91 +13,13 @@ use borrow.Author.Needs.{needs}
 use Rattle.reading.proofs.message.read_body.Statement.{statement}
 use Rattle.reading.proofs.message.read_body.Tie as tie
 
-enum-told : tie.Need-enum-told
-enum-told c = search needs
-
-message-requires : tie.Need-message-requires
-message-requires c κs = search needs
-
-enum-told-2 : tie.Need-enum-told-2
-enum-told-2 c = search needs
-
-message-requires-2 : tie.Need-message-requires-2
-message-requires-2 c κs = search needs
-
-enum-told-3 : tie.Need-enum-told-3
-enum-told-3 c = search needs
-
-message-requires-3 : tie.Need-message-requires-3
-message-requires-3 c κs = search needs
-
-enum-told-4 : tie.Need-enum-told-4
-enum-told-4 c = search needs
-
-sub-good-text : tie.Need-sub-good-text
-sub-good-text c = search needs
-
-part-good-text-start : tie.Need-part-good-text-start
-part-good-text-start c = search needs
-
-part-good-text-end : tie.Need-part-good-text-end
-part-good-text-end c = search needs
-
-good-text-requires : tie.Need-good-text-requires
-good-text-requires c κs = search needs
-
-message-requires-4 : tie.Need-message-requires-4
-message-requires-4 c κs = search needs
-
 returns : tie.Need-returns
 unfolding recordOf valuesIn layout those map held joined same decided start get partIn
 returns c = rw (c .before .before .before .before .enum-told4 .given .1) (ap R.Message (c .message4 .ensures) ∙ good-body K.EndpointName (c .before .before .before .before .before .before .before .args .words .now) refl refl 0 refl (all-told _ _ (sym (c .before .before .good-text .ensures) ∙ c .before .if1 .taken)))
 
-enum-told-5 : tie.Need-enum-told-5
-enum-told-5 c = search needs
-
-sub-good-text-2 : tie.Need-sub-good-text-2
-sub-good-text-2 c = search needs
-
-part-good-text-start-2 : tie.Need-part-good-text-start-2
-part-good-text-start-2 c = search needs
-
-part-good-text-end-2 : tie.Need-part-good-text-end-2
-part-good-text-end-2 c = search needs
-
-good-text-requires-2 : tie.Need-good-text-requires-2
-good-text-requires-2 c κs = search needs
-
-message-requires-5 : tie.Need-message-requires-5
-message-requires-5 c κs = search needs
-
 returns-2 : tie.Need-returns-2
 unfolding recordOf valuesIn layout those map held joined same decided start get partIn
 returns-2 c = rw (c .before .before .before .before .enum-told5 .given .1) (ap R.Message (c .message5 .ensures) ∙ good-body K.ProductInstanceId (c .before .before .before .before .before .before .before .args .words .now) refl refl 0 refl (all-told _ _ (sym (c .before .before .good-text2 .ensures) ∙ c .before .if2 .taken)))
-
-enum-told-6 : tie.Need-enum-told-6
-enum-told-6 c = search needs
-
-read-requires : tie.Need-read-requires
-read-requires c κs = search needs
-
-enum-told-7 : tie.Need-enum-told-7
-enum-told-7 c = search needs
-
-sub-good-text-3 : tie.Need-sub-good-text-3
-sub-good-text-3 c = search needs
-
-part-good-text-start-3 : tie.Need-part-good-text-start-3
-part-good-text-start-3 c = search needs
-
-part-good-text-end-3 : tie.Need-part-good-text-end-3
-part-good-text-end-3 c = search needs
-
-good-text-requires-3 : tie.Need-good-text-requires-3
-good-text-requires-3 c κs = search needs
-
-message-requires-6 : tie.Need-message-requires-6
-message-requires-6 c κs = search needs
 
 returns-3 : tie.Need-returns-3
 unfolding recordOf valuesIn layout those map held joined same decided start get partIn
@@ -134,39 +56,11 @@ pub read-body-spec : {M : Type 1} → statement M
 read-body-spec =
     tie.close
     (tie.spec
-    enum-told
-    message-requires
-    enum-told-2
-    message-requires-2
-    enum-told-3
-    message-requires-3
-    enum-told-4
-    sub-good-text
-    part-good-text-start
-    part-good-text-end
-    good-text-requires
-    message-requires-4
-    returns
-    enum-told-5
-    sub-good-text-2
-    part-good-text-start-2
-    part-good-text-end-2
-    good-text-requires-2
-    message-requires-5
-    returns-2
-    enum-told-6
-    read-requires
-    enum-told-7
-    sub-good-text-3
-    part-good-text-start-3
-    part-good-text-end-3
-    good-text-requires-3
-    message-requires-6
-    returns-3
-    returns-4
-    returns-5
-    returns-6
-    returns-7
-    returns-8
-    returns-9
-    returns-10)
+    (λ c. search needs) (λ c κs. search needs) (λ c. search needs) (λ c κs. search needs)
+    (λ c. search needs) (λ c κs. search needs) (λ c. search needs) (λ c. search needs)
+    (λ c. search needs) (λ c. search needs) (λ c κs. search needs) (λ c κs. search needs) returns
+    (λ c. search needs) (λ c. search needs) (λ c. search needs) (λ c. search needs)
+    (λ c κs. search needs) (λ c κs. search needs) returns-2 (λ c. search needs)
+    (λ c κs. search needs) (λ c. search needs) (λ c. search needs) (λ c. search needs)
+    (λ c. search needs) (λ c κs. search needs) (λ c κs. search needs) returns-3 returns-4
+    returns-5 returns-6 returns-7 returns-8 returns-9 returns-10)

@@ -7,25 +7,13 @@ use borrow.Author.Needs.{needs}
 use Rattle.reading.proofs.message.read_fields.Statement.{statement}
 use Rattle.reading.proofs.message.read_fields.Tie as tie
 
-repeats-field-requires : tie.Need-repeats-field-requires
-repeats-field-requires c κs = search needs
-
-first-broken-requires : tie.Need-first-broken-requires
-first-broken-requires c κs = search needs
-
 returns : tie.Need-returns
 unfolding fieldsRead
 returns c = ruled-here _ _ _ _ _ (c .before .before .first-broken .ensures ∙ repeated-rule (c .before .before .before .before .before .before .args .kind) (c .before .before .before .before .before .before .args .words .now) (sym (c .before .before .before .before .repeats-field .ensures) ∙ c .before .before .before .if1 .taken)) (c .if2 .taken)
 
-read-body-requires : tie.Need-read-body-requires
-read-body-requires c κs = search needs
-
 returns-2 : tie.Need-returns-2
 unfolding fieldsRead
 returns-2 c = ruled-past _ _ _ _ _ (c .before .before .before .first-broken .ensures ∙ repeated-rule (c .before .before .before .before .before .before .before .args .kind) (c .before .before .before .before .before .before .before .args .words .now) (sym (c .before .before .before .before .before .repeats-field .ensures) ∙ c .before .before .before .before .if1 .taken)) (c .before .if2 .left) (c .read-body .ensures)
-
-read-body-requires-2 : tie.Need-read-body-requires-2
-read-body-requires-2 c κs = search needs
 
 returns-3 : tie.Need-returns-3
 returns-3 c = c .read-body2 .ensures ∙ repeated-none (c .before .before .before .before .args .kind) (c .before .before .before .before .args .words .now) (sym (c .before .before .repeats-field .ensures) ∙ c .before .if1 .left) (c .before .before .before .before .pre .1)
@@ -34,10 +22,5 @@ pub read-fields-spec : {M : Type 1} → statement M
 read-fields-spec =
     tie.close
     (tie.spec
-    repeats-field-requires
-    first-broken-requires
-    returns
-    read-body-requires
-    returns-2
-    read-body-requires-2
-    returns-3)
+    (λ c κs. search needs) (λ c κs. search needs) returns (λ c κs. search needs) returns-2
+    (λ c κs. search needs) returns-3)

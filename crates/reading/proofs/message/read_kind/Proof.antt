@@ -10,22 +10,13 @@ use borrow.Author.Needs.{needs}
 use Rattle.reading.proofs.message.read_kind.Statement.{statement}
 use Rattle.reading.proofs.message.read_kind.Tie as tie
 
-first-broken-requires : tie.Need-first-broken-requires
-first-broken-requires c κs = search needs
-
 returns : tie.Need-returns
 unfolding readKind breaksOf
 returns c = ruled-here _ _ _ _ _ (c .before .before .first-broken .ensures) (c .if1 .taken)
 
-most-packets-requires : tie.Need-most-packets-requires
-most-packets-requires c κs = search needs
-
 returns-2 : tie.Need-returns-2
 unfolding readKind breaksOf
 returns-2 c = ruled-past _ _ _ _ _ (c .before .before .before .before .first-broken .ensures) (c .before .before .if1 .left) (here _ (lt-ltb _ _ (rw (c .before .most-packets .ensures) at (c .if2 .taken))) refl)
-
-first-broken-requires-2 : tie.Need-first-broken-requires-2
-first-broken-requires-2 c κs = search needs
 
 returns-3 : tie.Need-returns-3
 unfolding readKind breaksOf
@@ -42,11 +33,5 @@ pub read-kind-spec : {M : Type 1} → statement M
 read-kind-spec =
     tie.close
     (tie.spec
-    first-broken-requires
-    returns
-    most-packets-requires
-    returns-2
-    first-broken-requires-2
-    returns-3
-    read-fields-requires
-    returns-4)
+    (λ c κs. search needs) returns (λ c κs. search needs) returns-2 (λ c κs. search needs)
+    returns-3 read-fields-requires returns-4)

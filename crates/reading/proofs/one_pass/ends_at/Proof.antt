@@ -7,15 +7,6 @@ use borrow.Author.Needs.{needs}
 use Rattle.reading.proofs.one_pass.ends_at.Statement.{statement}
 use Rattle.reading.proofs.one_pass.ends_at.Tie as tie
 
-add-due-format : tie.Need-add-due-format
-add-due-format c = search needs
-
-due-format-requires : tie.Need-due-format-requires
-due-format-requires c κs = search needs
-
-add-result : tie.Need-add-result
-add-result c = search needs
-
 returns : tie.Need-returns
 unfolding endsAt
 returns c = here _ (eq-eqb _ _ (c .if1 .taken ∙ c .before .due-format .ensures)) refl
@@ -25,4 +16,7 @@ unfolding endsAt
 returns-2 c = past _ (ne-eqb _ _ (λ e. c .if1 .left (e ∙ sym (c .before .due-format .ensures)))) refl
 
 pub ends-at-spec : {M : Type 1} → statement M
-ends-at-spec = tie.close (tie.spec add-due-format due-format-requires add-result returns returns-2)
+ends-at-spec =
+    tie.close
+    (tie.spec
+    (λ c. search needs) (λ c κs. search needs) (λ c. search needs) returns returns-2)

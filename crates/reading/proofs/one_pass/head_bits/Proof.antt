@@ -5,18 +5,12 @@ use borrow.Author.Needs.{needs}
 use Rattle.reading.proofs.one_pass.head_bits.Statement.{statement}
 use Rattle.reading.proofs.one_pass.head_bits.Tie as tie
 
-set-crumb-requires : tie.Need-set-crumb-requires
-set-crumb-requires c κs = search needs
-
-text-bits-requires : tie.Need-text-bits-requires
-text-bits-requires c κs = search needs
-
-shr-result : tie.Need-shr-result
-shr-result c = search needs
-
 returns : tie.Need-returns
 unfolding headBits putPart
 returns c = rw (c .text-bits .ensures .0, c .before .set-crumb .ensures)
 
 pub head-bits-spec : {M : Type 1} → statement M
-head-bits-spec = tie.close (tie.spec set-crumb-requires text-bits-requires shr-result returns)
+head-bits-spec =
+    tie.close
+    (tie.spec
+    (λ c κs. search needs) (λ c κs. search needs) (λ c. search needs) returns)

@@ -92,24 +92,7 @@ pub headed-packets-spec : {M : Type 1} → statement M
 headed-packets-spec =
     tie.close
     (tie.spec
-    Inv-loop
-    μ-loop
-    returns
-    shared-slice-read-type-of
-    type-of-requires
-    returns-2
-    loop-holds
-    like-first-requires
-    mul-format-of
-    mul-format-of-2
-    shared-slice-read-format-of
-    format-of-requires
-    add-due-format
-    due-format-requires
-    ends-at-requires
-    returns-3
-    add-p
-    loop-less
-    loop-again
-    returns-4
-    returns-5)
+    Inv-loop μ-loop returns shared-slice-read-type-of type-of-requires returns-2 loop-holds
+    like-first-requires mul-format-of mul-format-of-2 shared-slice-read-format-of
+    format-of-requires add-due-format due-format-requires ends-at-requires returns-3 add-p
+    loop-less loop-again returns-4 returns-5)

@@ -8,17 +8,11 @@ use borrow.Author.Needs.{needs}
 use Rattle.reading.proofs.one_pass.seen_text.Statement.{statement}
 use Rattle.reading.proofs.one_pass.seen_text.Tie as tie
 
-headed-packets-requires : tie.Need-headed-packets-requires
-headed-packets-requires c κs = search needs
-
 mul-good-text : tie.Need-mul-good-text
 mul-good-text c = let h = headed-within _ _ _ (sym (ap (λ (x : PacketNumber). x .0) (c .headed-packets .ensures))) .1 in omega (arith, h)
 
 slice-aggregate-good-text : tie.Need-slice-aggregate-good-text
 slice-aggregate-good-text c = headed-words _ _ _ (sym (ap (λ (x : PacketNumber). x .0) (c .before .headed-packets .ensures)))
-
-good-text-requires : tie.Need-good-text-requires
-good-text-requires c κs = search needs
 
 returns : tie.Need-returns
 returns c = ap packet (seen-good _ _ _ (sym (ap (λ (x : PacketNumber). x .0) (c .before .before .before .headed-packets .ensures))) (sym (c .before .good-text .ensures) ∙ c .if1 .taken))
@@ -30,9 +24,5 @@ pub seen-text-spec : {M : Type 1} → statement M
 seen-text-spec =
     tie.close
     (tie.spec
-    headed-packets-requires
-    mul-good-text
-    slice-aggregate-good-text
-    good-text-requires
-    returns
+    (λ c κs. search needs) mul-good-text slice-aggregate-good-text (λ c κs. search needs) returns
     returns-2)

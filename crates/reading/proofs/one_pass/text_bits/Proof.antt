@@ -18,4 +18,7 @@ unfolding textBits
 returns-3 c = (omega arith, lit≤ tt)
 
 pub text-bits-spec : {M : Type 1} → statement M
-text-bits-spec = tie.close (tie.spec returns returns-2 returns-3)
+text-bits-spec =
+    tie.close
+    (tie.spec
+    returns returns-2 returns-3)

@@ -3,36 +3,6 @@ use borrow.Author.Needs.{needs}
 use Rattle.reading.proofs.one_pass.text_packets.Statement.{statement}
 use Rattle.reading.proofs.one_pass.text_packets.Tie as tie
 
-enum-told : tie.Need-enum-told
-enum-told c = search needs
-
-seen-text-requires : tie.Need-seen-text-requires
-seen-text-requires c κs = search needs
-
-enum-told-2 : tie.Need-enum-told-2
-enum-told-2 c = search needs
-
-seen-text-requires-2 : tie.Need-seen-text-requires-2
-seen-text-requires-2 c κs = search needs
-
-enum-told-3 : tie.Need-enum-told-3
-enum-told-3 c = search needs
-
-seen-text-requires-3 : tie.Need-seen-text-requires-3
-seen-text-requires-3 c κs = search needs
-
-enum-told-4 : tie.Need-enum-told-4
-enum-told-4 c = search needs
-
-enum-told-5 : tie.Need-enum-told-5
-enum-told-5 c = search needs
-
-enum-told-6 : tie.Need-enum-told-6
-enum-told-6 c = search needs
-
-enum-told-7 : tie.Need-enum-told-7
-enum-told-7 c = search needs
-
 returns : tie.Need-returns
 returns c = rw (c .before .enum-told .given .1) (c .seen-text .ensures)
 
@@ -58,20 +28,7 @@ pub text-packets-spec : {M : Type 1} → statement M
 text-packets-spec =
     tie.close
     (tie.spec
-    enum-told
-    seen-text-requires
-    enum-told-2
-    seen-text-requires-2
-    enum-told-3
-    seen-text-requires-3
-    enum-told-4
-    enum-told-5
-    enum-told-6
-    enum-told-7
-    returns
-    returns-2
-    returns-3
-    returns-4
-    returns-5
-    returns-6
-    returns-7)
+    (λ c. search needs) (λ c κs. search needs) (λ c. search needs) (λ c κs. search needs)
+    (λ c. search needs) (λ c κs. search needs) (λ c. search needs) (λ c. search needs)
+    (λ c. search needs) (λ c. search needs) returns returns-2 returns-3 returns-4 returns-5
+    returns-6 returns-7)

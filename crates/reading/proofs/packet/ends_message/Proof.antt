@@ -7,9 +7,6 @@ use borrow.Author.Needs.{needs}
 use Rattle.reading.proofs.packet.ends_message.Statement.{statement}
 use Rattle.reading.proofs.packet.ends_message.Tie as tie
 
-format-of-requires : tie.Need-format-of-requires
-format-of-requires c κs = search needs
-
 returns : tie.Need-returns
 unfolding ends
 returns c = here _ (eq-eqb _ 0 (sym (c .before .format-of .ensures) ∙ c .if1 .taken)) refl
@@ -19,4 +16,7 @@ unfolding ends
 returns-2 c = past _ (ne-eqb _ 0 (λ e. c .if1 .left (c .before .format-of .ensures ∙ e))) (rw (c .before .format-of .ensures))
 
 pub ends-message-spec : {M : Type 1} → statement M
-ends-message-spec = tie.close (tie.spec format-of-requires returns returns-2)
+ends-message-spec =
+    tie.close
+    (tie.spec
+    (λ c κs. search needs) returns returns-2)

@@ -53,15 +53,5 @@ pub first-end-spec : {M : Type 1} → statement M
 first-end-spec =
     tie.close
     (tie.spec
-    Inv-loop
-    μ-loop
-    loop-holds
-    mul-ends-message
-    mul-ends-message-2
-    shared-slice-read-ends-message
-    ends-message-requires
-    returns
-    add-p
-    loop-less
-    loop-again
-    returns-2)
+    Inv-loop μ-loop loop-holds mul-ends-message mul-ends-message-2 shared-slice-read-ends-message
+    ends-message-requires returns add-p loop-less loop-again returns-2)

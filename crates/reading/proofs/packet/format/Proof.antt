@@ -4,9 +4,6 @@ use borrow.Author.Needs.{needs}
 use Rattle.reading.proofs.packet.format.Statement.{statement}
 use Rattle.reading.proofs.packet.format.Tie as tie
 
-format-of-requires : tie.Need-format-of-requires
-format-of-requires c κs = search needs
-
 returns : tie.Need-returns
 returns c = rw (← c .before .format-of .ensures, c .match .keys1)
 
@@ -20,4 +17,7 @@ returns-4 : tie.Need-returns-4
 returns-4 c = rw (← c .before .format-of .ensures) (simp (ne-eqb _ _ (c .match .rest .0 .0 .1), ne-eqb _ _ (c .match .rest .0 .1), ne-eqb _ _ (c .match .rest .1)))
 
 pub format-spec : {M : Type 1} → statement M
-format-spec = tie.close (tie.spec format-of-requires returns returns-2 returns-3 returns-4)
+format-spec =
+    tie.close
+    (tie.spec
+    (λ c κs. search needs) returns returns-2 returns-3 returns-4)

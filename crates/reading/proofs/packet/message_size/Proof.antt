@@ -7,15 +7,6 @@ use borrow.Author.Needs.{needs}
 use Rattle.reading.proofs.packet.message_size.Statement.{statement}
 use Rattle.reading.proofs.packet.message_size.Tie as tie
 
-first-end-requires : tie.Need-first-end-requires
-first-end-requires c κs = search needs
-
-add-t6 : tie.Need-add-t6
-add-t6 c = search needs
-
-mul-t7 : tie.Need-mul-t7
-mul-t7 c = search needs
-
 returns : tie.Need-returns
 unfolding messageSize
 returns c = rw (← c .before .first-end .ensures) (here _ (lt-ltb _ _ (c .if1 .taken)) refl)
@@ -25,4 +16,7 @@ unfolding messageSize
 returns-2 c = rw (← c .before .first-end .ensures) (past _ (le-ltb _ _ (c .if1 .left)) refl)
 
 pub message-size-spec : {M : Type 1} → statement M
-message-size-spec = tie.close (tie.spec first-end-requires add-t6 mul-t7 returns returns-2)
+message-size-spec =
+    tie.close
+    (tie.spec
+    (λ c κs. search needs) (λ c. search needs) (λ c. search needs) returns returns-2)

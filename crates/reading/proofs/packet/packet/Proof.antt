@@ -11,24 +11,9 @@ returns : tie.Need-returns
 unfolding packetOf
 returns c = here _ (eq-eqb _ 0 (c .if1 .taken)) refl
 
-shared-slice-read-first : tie.Need-shared-slice-read-first
-shared-slice-read-first c = search needs
-
-type-of-requires : tie.Need-type-of-requires
-type-of-requires c κs = search needs
-
 returns-2 : tie.Need-returns-2
 unfolding packetOf
 returns-2 c = past _ (ne-eqb _ 0 (c .before .before .before .if1 .left)) (here _ (ne-differ _ 15 (λ e. c .if2 .taken (c .before .type-of .ensures ∙ e))) refl)
-
-word-or-zero-requires : tie.Need-word-or-zero-requires
-word-or-zero-requires c κs = search needs
-
-word-or-zero-requires-2 : tie.Need-word-or-zero-requires-2
-word-or-zero-requires-2 c κs = search needs
-
-word-or-zero-requires-3 : tie.Need-word-or-zero-requires-3
-word-or-zero-requires-3 c κs = search needs
 
 returns-3 : tie.Need-returns-3
 unfolding packetOf
@@ -38,11 +23,5 @@ pub packet-spec : {M : Type 1} → statement M
 packet-spec =
     tie.close
     (tie.spec
-    returns
-    shared-slice-read-first
-    type-of-requires
-    returns-2
-    word-or-zero-requires
-    word-or-zero-requires-2
-    word-or-zero-requires-3
-    returns-3)
+    returns (λ c. search needs) (λ c κs. search needs) returns-2 (λ c κs. search needs)
+    (λ c κs. search needs) (λ c κs. search needs) returns-3)

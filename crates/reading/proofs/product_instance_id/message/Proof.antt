@@ -9,4 +9,7 @@ unfolding recordOf
 returns c = refl
 
 pub message-spec : {M : Type 1} → statement M
-message-spec = tie.close (tie.spec returns)
+message-spec =
+    tie.close
+    (tie.spec
+    returns)

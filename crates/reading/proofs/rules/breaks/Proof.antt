@@ -5,39 +5,6 @@ use borrow.Author.Needs.{needs}
 use Rattle.reading.proofs.rules.breaks.Statement.{statement}
 use Rattle.reading.proofs.rules.breaks.Tie as tie
 
-enum-told : tie.Need-enum-told
-enum-told c = search needs
-
-type-of-requires : tie.Need-type-of-requires
-type-of-requires c κs = search needs
-
-enum-told-2 : tie.Need-enum-told-2
-enum-told-2 c = search needs
-
-status-of-requires : tie.Need-status-of-requires
-status-of-requires c κs = search needs
-
-status-of-requires-2 : tie.Need-status-of-requires-2
-status-of-requires-2 c κs = search needs
-
-enum-told-3 : tie.Need-enum-told-3
-enum-told-3 c = search needs
-
-format-of-requires : tie.Need-format-of-requires
-format-of-requires c κs = search needs
-
-due-format-requires : tie.Need-due-format-requires
-due-format-requires c κs = search needs
-
-enum-told-4 : tie.Need-enum-told-4
-enum-told-4 c = search needs
-
-octet-requires : tie.Need-octet-requires
-octet-requires c κs = search needs
-
-octet-requires-2 : tie.Need-octet-requires-2
-octet-requires-2 c κs = search needs
-
 returns : tie.Need-returns
 unfolding breaksOf
 returns c = rw (c .before .enum-told .given .1, c .type-of .ensures)
@@ -58,18 +25,7 @@ pub breaks-spec : {M : Type 1} → statement M
 breaks-spec =
     tie.close
     (tie.spec
-    enum-told
-    type-of-requires
-    enum-told-2
-    status-of-requires
-    status-of-requires-2
-    enum-told-3
-    format-of-requires
-    due-format-requires
-    enum-told-4
-    octet-requires
-    octet-requires-2
-    returns
-    returns-2
-    returns-3
+    (λ c. search needs) (λ c κs. search needs) (λ c. search needs) (λ c κs. search needs)
+    (λ c κs. search needs) (λ c. search needs) (λ c κs. search needs) (λ c κs. search needs)
+    (λ c. search needs) (λ c κs. search needs) (λ c κs. search needs) returns returns-2 returns-3
     returns-4)

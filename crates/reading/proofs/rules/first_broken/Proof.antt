@@ -53,16 +53,5 @@ pub first-broken-spec : {M : Type 1} → statement M
 first-broken-spec =
     tie.close
     (tie.spec
-    Inv-loop
-    μ-loop
-    loop-holds
-    shared-slice-read-breaks
-    mul-breaks
-    mul-breaks-2
-    shared-slice-read-breaks-2
-    breaks-requires
-    returns
-    add-p
-    loop-less
-    loop-again
-    returns-2)
+    Inv-loop μ-loop loop-holds shared-slice-read-breaks mul-breaks mul-breaks-2
+    shared-slice-read-breaks-2 breaks-requires returns add-p loop-less loop-again returns-2)

@@ -5,22 +5,16 @@ use Rattle.records.specs.Settings.{followed}
 use Rattle.records.proofs.answers.then.Statement.{statement}
 use Rattle.records.proofs.answers.then.Tie as tie
 
-enum-known-answer : tie.Need-enum-known-answer
-enum-known-answer c = search needs
-
-enum-told : tie.Need-enum-told
-enum-told c = search needs
-
 returns : tie.Need-returns
 unfolding followed
 returns c = rw (c .enum-told .given .1)
-
-refused-requires : tie.Need-refused-requires
-refused-requires c κs = search needs
 
 returns-2 : tie.Need-returns-2
 unfolding followed
 returns-2 c = c .refused .ensures ∙ rw (c .before .before .answer .given .1)
 
 pub then-spec : {M : Type 1} → statement M
-then-spec = tie.close (tie.spec enum-known-answer enum-told returns refused-requires returns-2)
+then-spec =
+    tie.close
+    (tie.spec
+    (λ c. search needs) (λ c. search needs) returns (λ c κs. search needs) returns-2)

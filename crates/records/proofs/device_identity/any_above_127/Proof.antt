@@ -24,4 +24,7 @@ returns-4 c =
     sym (small _ _ _ (c .before .before .if1 .left) (small _ _ _ (c .before .if2 .left) (small _ _ _ (c .if3 .left) (sym (above (c .before .before .before .args .d) 127)))))
 
 pub any-above-127-spec : {M : Type 1} → statement M
-any-above-127-spec = tie.close (tie.spec returns returns-2 returns-3 returns-4)
+any-above-127-spec =
+    tie.close
+    (tie.spec
+    returns returns-2 returns-3 returns-4)

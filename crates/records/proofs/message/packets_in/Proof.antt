@@ -3,27 +3,6 @@ use borrow.Author.Needs.{needs}
 use Rattle.records.proofs.message.packets_in.Statement.{statement}
 use Rattle.records.proofs.message.packets_in.Tie as tie
 
-enum-known-message : tie.Need-enum-known-message
-enum-known-message c = search needs
-
-enum-known-message-2 : tie.Need-enum-known-message-2
-enum-known-message-2 c = search needs
-
-enum-known-message-3 : tie.Need-enum-known-message-3
-enum-known-message-3 c = search needs
-
-enum-told : tie.Need-enum-told
-enum-told c = search needs
-
-enum-told-2 : tie.Need-enum-told-2
-enum-told-2 c = search needs
-
-enum-told-3 : tie.Need-enum-told-3
-enum-told-3 c = search needs
-
-enum-told-4 : tie.Need-enum-told-4
-enum-told-4 c = search needs
-
 returns : tie.Need-returns
 returns c = rw (c .before .message .given .1)
 
@@ -49,17 +28,6 @@ pub packets-in-spec : {M : Type 1} → statement M
 packets-in-spec =
     tie.close
     (tie.spec
-    enum-known-message
-    enum-known-message-2
-    enum-known-message-3
-    enum-told
-    enum-told-2
-    enum-told-3
-    enum-told-4
-    returns
-    returns-2
-    returns-3
-    returns-4
-    returns-5
-    returns-6
-    returns-7)
+    (λ c. search needs) (λ c. search needs) (λ c. search needs) (λ c. search needs)
+    (λ c. search needs) (λ c. search needs) (λ c. search needs) returns returns-2 returns-3
+    returns-4 returns-5 returns-6 returns-7)

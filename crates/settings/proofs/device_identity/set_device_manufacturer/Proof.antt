@@ -2,21 +2,12 @@
 use mathlib.Core.Path.{refl}
 use Rattle.slots.specs.Slots.{fits}
 use Rattle.kinds.specs.declared.kind.Kind.the-variants as K
-use Rattle.filling.specs.Filling.{putSeptets, fillSeptets, areSeptets, putIns}
+use Rattle.buffer.specs.Filling.{putSeptets, fillSeptets, areSeptets, putIns}
 use Rattle.settings.proofs.Slots.{facts, set-septets}
 use borrow.Author.Needs.{needs}
 use Rattle.standard.proofs.Left.{said-as}
 use Rattle.settings.proofs.device_identity.set_device_manufacturer.Statement.{statement}
 use Rattle.settings.proofs.device_identity.set_device_manufacturer.Tie as tie
-
-slice-aggregate-set-septets : tie.Need-slice-aggregate-set-septets
-slice-aggregate-set-septets c = search needs
-
-set-septets-requires : tie.Need-set-septets-requires
-set-septets-requires c κs = search needs
-
-same-length : tie.Need-same-length
-same-length c = search needs
 
 returns : tie.Need-returns
 unfolding facts fits putIns putSeptets fillSeptets areSeptets
@@ -24,4 +15,6 @@ returns c = said-as (set-septets K.DeviceIdentity _ _ refl _ _ _ _ refl refl) (c
 
 pub set-device-manufacturer-spec : {M : Type 1} → statement M
 set-device-manufacturer-spec =
-    tie.close (tie.spec slice-aggregate-set-septets set-septets-requires same-length returns)
+    tie.close
+    (tie.spec
+    (λ c. search needs) (λ c κs. search needs) (λ c. search needs) returns)

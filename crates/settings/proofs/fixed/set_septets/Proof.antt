@@ -6,35 +6,11 @@ use Rattle.standard.proofs.Left.{said}
 use Rattle.settings.proofs.fixed.set_septets.Statement.{statement}
 use Rattle.settings.proofs.fixed.set_septets.Tie as tie
 
-find-target-requires : tie.Need-find-target-requires
-find-target-requires c κs = search needs
-
-enum-known-refusal : tie.Need-enum-known-refusal
-enum-known-refusal c = search needs
-
-enum-told : tie.Need-enum-told
-enum-told c = search needs
-
-are-septets-requires : tie.Need-are-septets-requires
-are-septets-requires c κs = search needs
-
-put-septets-requires : tie.Need-put-septets-requires
-put-septets-requires c κs = search needs
-
-same-length : tie.Need-same-length
-same-length c = search needs
-
 returns : tie.Need-returns
 returns c = rw (c .before .before .put-septets .ensures) (said (septets-set _ _ _ _ _ (sym (c .before .before .before .before .before .before .before .before .find-target .ensures) ∙ c .before .before .before .before .before .before .enum-told .given .1) (sym (c .before .before .before .before .before .are-septets .ensures) ∙ c .before .before .before .before .if1 .taken)))
 
-same-length-2 : tie.Need-same-length-2
-same-length-2 c = search needs
-
 returns-2 : tie.Need-returns-2
 returns-2 c = said (septets-refused _ _ _ _ _ (sym (c .before .before .before .find-target .ensures) ∙ c .before .refusal .given .1))
-
-same-length-3 : tie.Need-same-length-3
-same-length-3 c = search needs
 
 returns-3 : tie.Need-returns-3
 returns-3 c = said (septets-large _ _ _ _ _ (sym (c .before .before .before .before .find-target .ensures) ∙ c .before .before .enum-told .given .1) (sym (c .before .are-septets .ensures) ∙ c .if1 .left))
@@ -43,14 +19,6 @@ pub set-septets-spec : {M : Type 1} → statement M
 set-septets-spec =
     tie.close
     (tie.spec
-    find-target-requires
-    enum-known-refusal
-    enum-told
-    are-septets-requires
-    put-septets-requires
-    same-length
-    returns
-    same-length-2
-    returns-2
-    same-length-3
-    returns-3)
+    (λ c κs. search needs) (λ c. search needs) (λ c. search needs) (λ c κs. search needs)
+    (λ c κs. search needs) (λ c. search needs) returns (λ c. search needs) returns-2
+    (λ c. search needs) returns-3)

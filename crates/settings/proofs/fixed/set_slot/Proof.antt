@@ -6,35 +6,11 @@ use Rattle.standard.proofs.Left.{said}
 use Rattle.settings.proofs.fixed.set_slot.Statement.{statement}
 use Rattle.settings.proofs.fixed.set_slot.Tie as tie
 
-find-target-requires : tie.Need-find-target-requires
-find-target-requires c κs = search needs
-
-enum-known-refusal : tie.Need-enum-known-refusal
-enum-known-refusal c = search needs
-
-enum-told : tie.Need-enum-told
-enum-told c = search needs
-
-too-large-requires : tie.Need-too-large-requires
-too-large-requires c κs = search needs
-
-same-length : tie.Need-same-length
-same-length c = search needs
-
 returns : tie.Need-returns
 returns c = said (slot-large _ _ _ _ _ _ (sym (c .before .before .before .before .find-target .ensures) ∙ c .before .before .enum-told .given .1) (sym (c .before .too-large .ensures) ∙ c .if1 .taken))
 
-put-field-requires : tie.Need-put-field-requires
-put-field-requires c κs = search needs
-
-same-length-2 : tie.Need-same-length-2
-same-length-2 c = search needs
-
 returns-2 : tie.Need-returns-2
 returns-2 c = said (slot-refused _ _ _ _ _ _ (sym (c .before .before .before .find-target .ensures) ∙ c .before .refusal .given .1))
-
-same-length-3 : tie.Need-same-length-3
-same-length-3 c = search needs
 
 returns-3 : tie.Need-returns-3
 returns-3 c = rw (c .before .before .put-field .ensures) (said (slot-done _ _ _ _ _ _ (sym (c .before .before .before .before .before .before .before .before .find-target .ensures) ∙ c .before .before .before .before .before .before .enum-told .given .1) (sym (c .before .before .before .before .before .too-large .ensures) ∙ c .before .before .before .before .if1 .left)))
@@ -43,14 +19,6 @@ pub set-slot-spec : {M : Type 1} → statement M
 set-slot-spec =
     tie.close
     (tie.spec
-    find-target-requires
-    enum-known-refusal
-    enum-told
-    too-large-requires
-    same-length
-    returns
-    put-field-requires
-    same-length-2
-    returns-2
-    same-length-3
-    returns-3)
+    (λ c κs. search needs) (λ c. search needs) (λ c. search needs) (λ c κs. search needs)
+    (λ c. search needs) returns (λ c κs. search needs) (λ c. search needs) returns-2
+    (λ c. search needs) returns-3)

@@ -7,19 +7,12 @@ use Rattle.standard.proofs.Left.{said-as}
 use Rattle.settings.proofs.function_block_info.set_direction.Statement.{statement}
 use Rattle.settings.proofs.function_block_info.set_direction.Tie as tie
 
-direction-code-requires : tie.Need-direction-code-requires
-direction-code-requires c κs = search needs
-
-set-slot-requires : tie.Need-set-slot-requires
-set-slot-requires c κs = search needs
-
-same-length : tie.Need-same-length
-same-length c = search needs
-
 returns : tie.Need-returns
 unfolding facts
 returns c = said-as (set-slot K.FunctionBlockInfo _ _ _ _ _ refl refl _) (rw (c .before .before .before .direction-code .ensures) at (c .before .before .set-slot .ensures))
 
 pub set-direction-spec : {M : Type 1} → statement M
 set-direction-spec =
-    tie.close (tie.spec direction-code-requires set-slot-requires same-length returns)
+    tie.close
+    (tie.spec
+    (λ c κs. search needs) (λ c κs. search needs) (λ c. search needs) returns)

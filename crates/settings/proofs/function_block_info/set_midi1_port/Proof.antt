@@ -7,18 +7,12 @@ use Rattle.standard.proofs.Left.{said-as}
 use Rattle.settings.proofs.function_block_info.set_midi1_port.Statement.{statement}
 use Rattle.settings.proofs.function_block_info.set_midi1_port.Tie as tie
 
-port-code-requires : tie.Need-port-code-requires
-port-code-requires c κs = search needs
-
-set-slot-requires : tie.Need-set-slot-requires
-set-slot-requires c κs = search needs
-
-same-length : tie.Need-same-length
-same-length c = search needs
-
 returns : tie.Need-returns
 unfolding facts
 returns c = said-as (set-slot K.FunctionBlockInfo _ _ _ _ _ refl refl _) (rw (c .before .before .before .port-code .ensures) at (c .before .before .set-slot .ensures))
 
 pub set-midi1-port-spec : {M : Type 1} → statement M
-set-midi1-port-spec = tie.close (tie.spec port-code-requires set-slot-requires same-length returns)
+set-midi1-port-spec =
+    tie.close
+    (tie.spec
+    (λ c κs. search needs) (λ c κs. search needs) (λ c. search needs) returns)

@@ -7,18 +7,12 @@ use Rattle.standard.proofs.Left.{said-as}
 use Rattle.settings.proofs.function_block_info.set_ui_hint.Statement.{statement}
 use Rattle.settings.proofs.function_block_info.set_ui_hint.Tie as tie
 
-hint-code-requires : tie.Need-hint-code-requires
-hint-code-requires c κs = search needs
-
-set-slot-requires : tie.Need-set-slot-requires
-set-slot-requires c κs = search needs
-
-same-length : tie.Need-same-length
-same-length c = search needs
-
 returns : tie.Need-returns
 unfolding facts
 returns c = said-as (set-slot K.FunctionBlockInfo _ _ _ _ _ refl refl _) (rw (c .before .before .before .hint-code .ensures) at (c .before .before .set-slot .ensures))
 
 pub set-ui-hint-spec : {M : Type 1} → statement M
-set-ui-hint-spec = tie.close (tie.spec hint-code-requires set-slot-requires same-length returns)
+set-ui-hint-spec =
+    tie.close
+    (tie.spec
+    (λ c κs. search needs) (λ c κs. search needs) (λ c. search needs) returns)

@@ -3,24 +3,6 @@ use borrow.Author.Needs.{needs}
 use Rattle.settings.proofs.target.find_target.Statement.{statement}
 use Rattle.settings.proofs.target.find_target.Tie as tie
 
-walk-requires : tie.Need-walk-requires
-walk-requires c κs = search needs
-
-enum-told : tie.Need-enum-told
-enum-told c = search needs
-
-enum-told-2 : tie.Need-enum-told-2
-enum-told-2 c = search needs
-
-enum-known-refusal : tie.Need-enum-known-refusal
-enum-known-refusal c = search needs
-
-enum-known-message : tie.Need-enum-known-message
-enum-known-message c = search needs
-
-own-message-requires : tie.Need-own-message-requires
-own-message-requires c κs = search needs
-
 returns : tie.Need-returns
 returns c = rw (← c .before .before .walk .ensures, c .enum-told .given .1)
 
@@ -37,13 +19,5 @@ pub find-target-spec : {M : Type 1} → statement M
 find-target-spec =
     tie.close
     (tie.spec
-    walk-requires
-    enum-told
-    enum-told-2
-    enum-known-refusal
-    enum-known-message
-    own-message-requires
-    returns
-    returns-2
-    returns-3
-    returns-4)
+    (λ c κs. search needs) (λ c. search needs) (λ c. search needs) (λ c. search needs)
+    (λ c. search needs) (λ c κs. search needs) returns returns-2 returns-3 returns-4)

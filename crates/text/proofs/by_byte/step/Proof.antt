@@ -81,19 +81,6 @@ pub step-spec : {M : Type 1} → statement M
 step-spec =
     tie.close
     (tie.spec
-    Inv-loop
-    μ-loop
-    ended-requires
-    returns
-    sub-if2
-    ended-requires-2
-    returns-2
-    loop-holds
-    text-byte-requires
-    sub-advanced
-    advanced-requires
-    returns-3
-    loop-less
-    loop-again
-    ended-requires-3
-    returns-4)
+    Inv-loop μ-loop ended-requires returns sub-if2 ended-requires-2 returns-2 loop-holds
+    text-byte-requires sub-advanced advanced-requires returns-3 loop-less loop-again
+    ended-requires-3 returns-4)

@@ -18,33 +18,9 @@ returns-2 : tie.Need-returns-2
 unfolding byteAt
 returns-2 c = let a = c .before .before .before .args in past _ (lt-leb _ _ (c .before .if1 .left)) (here _ (le-leb (14 - a .offset) (a .at .byte .0) (omega arith)) refl)
 
-sub-if3 : tie.Need-sub-if3
-sub-if3 c = search needs
-
 returns-3 : tie.Need-returns-3
 unfolding byteAt
 returns-3 c = past _ (lt-leb _ _ (c .before .before .if1 .left)) (here _ (le-leb _ _ (c .if3 .taken)) refl)
-
-add-o : tie.Need-add-o
-add-o c = search needs
-
-add-o-2 : tie.Need-add-o-2
-add-o-2 c = search needs
-
-mul-octet : tie.Need-mul-octet
-mul-octet c = search needs
-
-add-octet : tie.Need-add-octet
-add-octet c = search needs
-
-mul-octet-2 : tie.Need-mul-octet-2
-mul-octet-2 c = search needs
-
-shared-slice-read-octet : tie.Need-shared-slice-read-octet
-shared-slice-read-octet c = search needs
-
-octet-requires : tie.Need-octet-requires
-octet-requires c κs = search needs
 
 returns-4 : tie.Need-returns-4
 unfolding byteAt textByte
@@ -54,15 +30,6 @@ pub text-byte-spec : {M : Type 1} → statement M
 text-byte-spec =
     tie.close
     (tie.spec
-    returns
-    returns-2
-    sub-if3
-    returns-3
-    add-o
-    add-o-2
-    mul-octet
-    add-octet
-    mul-octet-2
-    shared-slice-read-octet
-    octet-requires
-    returns-4)
+    returns returns-2 (λ c. search needs) returns-3 (λ c. search needs) (λ c. search needs)
+    (λ c. search needs) (λ c. search needs) (λ c. search needs) (λ c. search needs)
+    (λ c κs. search needs) returns-4)

@@ -9,17 +9,8 @@ use Rattle.text.proofs.joined.joined.Tie as tie
 returns : tie.Need-returns
 returns c = sym (joined-out _ _ (omega arith))
 
-sub-if2 : tie.Need-sub-if2
-sub-if2 c = search needs
-
 returns-2 : tie.Need-returns-2
 returns-2 c = sym (joined-out _ _ (omega arith))
-
-loaded-requires : tie.Need-loaded-requires
-loaded-requires c κs = search needs
-
-swapped-requires : tie.Need-swapped-requires
-swapped-requires c κs = search needs
 
 returns-3 : tie.Need-returns-3
 returns-3 c =
@@ -30,4 +21,6 @@ returns-3 c =
 
 pub joined-spec : {M : Type 1} → statement M
 joined-spec =
-    tie.close (tie.spec returns sub-if2 returns-2 loaded-requires swapped-requires returns-3)
+    tie.close
+    (tie.spec
+    returns (λ c. search needs) returns-2 (λ c κs. search needs) (λ c κs. search needs) returns-3)

@@ -15,9 +15,6 @@ returns-2 : tie.Need-returns-2
 unfolding due
 returns-2 c = past _ (lt-leb _ _ (c .before .if1 .left)) (here _ (eq-eqb _ _ (c .if2 .taken)) refl)
 
-sub-if3 : tie.Need-sub-if3
-sub-if3 c = search needs
-
 returns-3 : tie.Need-returns-3
 unfolding due
 returns-3 c = past _ (lt-leb _ _ (c .before .before .if1 .left)) (past _ (ne-eqb _ _ (c .before .if2 .left)) (here _ (lt-ltb _ _ (c .if3 .taken)) refl))
@@ -27,4 +24,7 @@ unfolding due
 returns-4 c = past _ (lt-leb _ _ (c .before .before .if1 .left)) (past _ (ne-eqb _ _ (c .before .if2 .left)) (past _ (le-ltb _ _ (c .if3 .left)) refl))
 
 pub due-format-spec : {M : Type 1} → statement M
-due-format-spec = tie.close (tie.spec returns returns-2 sub-if3 returns-3 returns-4)
+due-format-spec =
+    tie.close
+    (tie.spec
+    returns returns-2 (λ c. search needs) returns-3 returns-4)

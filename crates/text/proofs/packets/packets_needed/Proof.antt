@@ -11,12 +11,6 @@ returns c = needed-few _ _ (c .if1 .taken)
 returns-2 : tie.Need-returns-2
 returns-2 c = needed-without _ _ (λ e. omega arith) (c .if2 .taken)
 
-sub-t4 : tie.Need-sub-t4
-sub-t4 c = search needs
-
-div-t5 : tie.Need-div-t5
-div-t5 c = search needs
-
 add-t6 : tie.Need-add-t6
 add-t6 c = omega (arith, packets-fit (c .before .before .args .capacity) (c .before .before .args .bytes) (λ e. omega arith))
 
@@ -24,4 +18,7 @@ returns-3 : tie.Need-returns-3
 returns-3 c = needed-last _ _ (λ e. omega arith) (c .if2 .left)
 
 pub packets-needed-spec : {M : Type 1} → statement M
-packets-needed-spec = tie.close (tie.spec returns returns-2 sub-t4 div-t5 add-t6 returns-3)
+packets-needed-spec =
+    tie.close
+    (tie.spec
+    returns returns-2 (λ c. search needs) (λ c. search needs) add-t6 returns-3)

@@ -9,19 +9,12 @@ use Rattle.text_settings.proofs.function_block_name.block_head.Tie as t
 returns : tie.Need-returns
 returns c = no-number _ (c .if1 .taken)
 
-shared-slice-read-result : tie.Need-shared-slice-read-result
-shared-slice-read-result c = search needs
-
-mul-result : tie.Need-mul-result
-mul-result c = search needs
-
-add-result : tie.Need-add-result
-add-result c = search needs
-
 returns-2 : tie.Need-returns-2
 unfolding blockHead
 returns-2 c = refl
 
 pub block-head-spec : {M : Type 1} → statement M
 block-head-spec =
-    tie.close (tie.spec returns shared-slice-read-result mul-result add-result returns-2)
+    tie.close
+    (tie.spec
+    returns (λ c. search needs) (λ c. search needs) (λ c. search needs) returns-2)

@@ -17,34 +17,13 @@ find-text-target-requires : tie.Need-find-text-target-requires
 unfolding layout
 find-text-target-requires c κs = refl
 
-enum-known-refusal : tie.Need-enum-known-refusal
-enum-known-refusal c = search needs
-
-enum-known-packets : tie.Need-enum-known-packets
-enum-known-packets c = search needs
-
-too-large-requires : tie.Need-too-large-requires
-too-large-requires c κs = search needs
-
-same-length : tie.Need-same-length
-same-length c = search needs
-
 returns : tie.Need-returns
 unfolding facts
 returns c = said-as (set-each K.FunctionBlockName _ Text.function-block-name 3 8 8 _ refl refl _ refl) (said (each-large _ _ _ _ _ (sym (c .before .before .before .before .before .find-text-target .ensures) ∙ c .before .before .before .packets .given .1) (sym (c .before .too-large .ensures) ∙ c .if1 .taken)))
 
-put-each-requires : tie.Need-put-each-requires
-put-each-requires c κs = search needs
-
-same-length-2 : tie.Need-same-length-2
-same-length-2 c = search needs
-
 returns-2 : tie.Need-returns-2
 unfolding facts
 returns-2 c = said-as (set-each K.FunctionBlockName _ Text.function-block-name 3 8 8 _ refl refl _ refl) (said (each-refused _ _ _ _ _ (sym (c .before .before .before .find-text-target .ensures) ∙ c .before .refusal .given .1)))
-
-same-length-3 : tie.Need-same-length-3
-same-length-3 c = search needs
 
 returns-3 : tie.Need-returns-3
 unfolding facts
@@ -54,14 +33,6 @@ pub set-function-block-spec : {M : Type 1} → statement M
 set-function-block-spec =
     tie.close
     (tie.spec
-    find-text-target-requires
-    enum-known-refusal
-    enum-known-packets
-    too-large-requires
-    same-length
-    returns
-    put-each-requires
-    same-length-2
-    returns-2
-    same-length-3
-    returns-3)
+    find-text-target-requires (λ c. search needs) (λ c. search needs) (λ c κs. search needs)
+    (λ c. search needs) returns (λ c κs. search needs) (λ c. search needs) returns-2
+    (λ c. search needs) returns-3)

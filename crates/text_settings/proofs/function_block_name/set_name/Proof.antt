@@ -11,21 +11,18 @@ use Rattle.standard.proofs.Left.{said-as}
 use Rattle.text_settings.proofs.function_block_name.set_name.Statement.{statement}
 use Rattle.text_settings.proofs.function_block_name.set_name.Tie as tie
 
-block-head-requires : tie.Need-block-head-requires
-block-head-requires c κs = search needs
-
 set-text-requires : tie.Need-set-text-requires
 unfolding layout
 set-text-requires c κs =
     let u = block-upper (c .before .before .before .before .before .args .words .now) in
     (record { upper = omega (arith, c .before .block-head .ensures, u); text = lit≤ tt }, lit≤ tt)
 
-same-length : tie.Need-same-length
-same-length c = search needs
-
 returns : tie.Need-returns
 unfolding textFacts
 returns c = said-as (set-text K.FunctionBlockName _ 1 _ _ _ refl (lit≤ tt) (block-heads _)) (rw (c .before .before .before .before .block-head .ensures) at (c .before .before .set-text .ensures))
 
 pub set-name-spec : {M : Type 1} → statement M
-set-name-spec = tie.close (tie.spec block-head-requires set-text-requires same-length returns)
+set-name-spec =
+    tie.close
+    (tie.spec
+    (λ c κs. search needs) set-text-requires (λ c. search needs) returns)

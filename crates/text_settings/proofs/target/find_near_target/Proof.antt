@@ -8,16 +8,10 @@ use borrow.Author.Needs.{needs}
 use Rattle.text_settings.proofs.target.find_near_target.Statement.{statement}
 use Rattle.text_settings.proofs.target.find_near_target.Tie as tie
 
-lone-requires : tie.Need-lone-requires
-lone-requires c κs = search needs
-
 returns : tie.Need-returns
 returns c =
     let start = c .before .before .before in
     lone-target (start .args .kind) (start .args .words .now) (start .args .head) (start .pre) (sym (c .before .lone .ensures) ∙ c .if1 .taken)
-
-status-of-requires : tie.Need-status-of-requires
-status-of-requires c κs = search needs
 
 find-text-target-requires : tie.Need-find-text-target-requires
 find-text-target-requires c κs = c .status-of .ensures ∙ head-status (c .before .before .before .before .pre)
@@ -28,4 +22,5 @@ returns-2 c = c .find-text-target .ensures ∙ ap (λ (x : ℕ). targetOf x (wal
 pub find-near-target-spec : {M : Type 1} → statement M
 find-near-target-spec =
     tie.close
-    (tie.spec lone-requires returns status-of-requires find-text-target-requires returns-2)
+    (tie.spec
+    (λ c κs. search needs) returns (λ c κs. search needs) find-text-target-requires returns-2)

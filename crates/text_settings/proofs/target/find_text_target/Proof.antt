@@ -8,15 +8,6 @@ use borrow.Author.Needs.{needs}
 use Rattle.text_settings.proofs.target.find_text_target.Statement.{statement}
 use Rattle.text_settings.proofs.target.find_text_target.Tie as tie
 
-shared-slice-read-status-of : tie.Need-shared-slice-read-status-of
-shared-slice-read-status-of c = search needs
-
-status-of-requires : tie.Need-status-of-requires
-status-of-requires c κs = search needs
-
-text-packets-requires : tie.Need-text-packets-requires
-text-packets-requires c κs = search needs
-
 returns : tie.Need-returns
 returns c =
     let start = c .before .before .before .before .before .before .before .before in
@@ -26,19 +17,9 @@ returns c =
     let some = c .if3 .taken in
     rw (start .pre) (ap T.Packets n ∙ seen-target (start .args .kind) (start .args .words .now) _ own refl (omega (arith, is, some)))
 
-find-target-requires : tie.Need-find-target-requires
-find-target-requires c κs = search needs
-
-returns-2 : tie.Need-returns-2
-returns-2 c = search needs
-
 pub find-text-target-spec : {M : Type 1} → statement M
 find-text-target-spec =
     tie.close
     (tie.spec
-    shared-slice-read-status-of
-    status-of-requires
-    text-packets-requires
-    returns
-    find-target-requires
-    returns-2)
+    (λ c. search needs) (λ c κs. search needs) (λ c κs. search needs) returns
+    (λ c κs. search needs) (λ c. search needs))

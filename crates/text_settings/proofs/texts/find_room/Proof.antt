@@ -4,9 +4,6 @@ use borrow.Author.Needs.{needs}
 use Rattle.text_settings.proofs.texts.find_room.Statement.{statement}
 use Rattle.text_settings.proofs.texts.find_room.Tie as tie
 
-packets-needed-requires : tie.Need-packets-needed-requires
-packets-needed-requires c κs = search needs
-
 returns : tie.Need-returns
 returns c = room-many _ _ (rw (c .before .packets-needed .ensures) at (c .if1 .taken))
 
@@ -17,4 +14,7 @@ returns-3 : tie.Need-returns-3
 returns-3 c = let e = c .before .before .before .packets-needed .ensures in rw e (room-enough _ _ (rw e at (c .before .before .if1 .left)) (rw e at (c .if2 .left)))
 
 pub find-room-spec : {M : Type 1} → statement M
-find-room-spec = tie.close (tie.spec packets-needed-requires returns returns-2 returns-3)
+find-room-spec =
+    tie.close
+    (tie.spec
+    (λ c κs. search needs) returns returns-2 returns-3)

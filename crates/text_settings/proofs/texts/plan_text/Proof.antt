@@ -5,18 +5,6 @@ use borrow.Author.Needs.{needs}
 use Rattle.text_settings.proofs.texts.plan_text.Statement.{statement}
 use Rattle.text_settings.proofs.texts.plan_text.Tie as tie
 
-check-utf8-requires : tie.Need-check-utf8-requires
-check-utf8-requires c κs = search needs
-
-enum-told : tie.Need-enum-told
-enum-told c = search needs
-
-enum-told-2 : tie.Need-enum-told-2
-enum-told-2 c = search needs
-
-find-room-requires : tie.Need-find-room-requires
-find-room-requires c κs = search needs
-
 returns : tie.Need-returns
 returns c = plan-bad _ _ _ (sym (c .before .before .check-utf8 .ensures) ∙ c .enum-told .given .1)
 
@@ -26,4 +14,6 @@ returns-2 c = c .find-room .ensures ∙ plan-good _ _ _ (sym (c .before .before 
 pub plan-text-spec : {M : Type 1} → statement M
 plan-text-spec =
     tie.close
-    (tie.spec check-utf8-requires enum-told enum-told-2 find-room-requires returns returns-2)
+    (tie.spec
+    (λ c κs. search needs) (λ c. search needs) (λ c. search needs) (λ c κs. search needs) returns
+    returns-2)

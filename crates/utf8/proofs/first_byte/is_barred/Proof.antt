@@ -17,4 +17,7 @@ unfolding barredOf
 returns-3 c = rw (ne-eqb _ _ (c .before .if1 .left), ne-eqb _ _ (c .if2 .left))
 
 pub is-barred-spec : {M : Type 1} → statement M
-is-barred-spec = tie.close (tie.spec returns returns-2 returns-3)
+is-barred-spec =
+    tie.close
+    (tie.spec
+    returns returns-2 returns-3)

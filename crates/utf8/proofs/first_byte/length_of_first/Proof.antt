@@ -25,4 +25,7 @@ returns-5 c =
     no-length (c .before .args .b) (c .before .fits .b .fits) (c .match .rest .0 .0 .0 .1) (c .match .rest .0 .0 .1) (c .match .rest .0 .1) (c .match .rest .1)
 
 pub length-of-first-spec : {M : Type 1} → statement M
-length-of-first-spec = tie.close (tie.spec returns returns-2 returns-3 returns-4 returns-5)
+length-of-first-spec =
+    tie.close
+    (tie.spec
+    returns returns-2 returns-3 returns-4 returns-5)

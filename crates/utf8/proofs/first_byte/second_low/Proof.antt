@@ -17,4 +17,7 @@ unfolding lowOf
 returns-3 c = simp (ne-eqb _ _ (c .match .rest .0 .1), ne-eqb _ _ (c .match .rest .1))
 
 pub second-low-spec : {M : Type 1} → statement M
-second-low-spec = tie.close (tie.spec returns returns-2 returns-3)
+second-low-spec =
+    tie.close
+    (tie.spec
+    returns returns-2 returns-3)

@@ -1,24 +1,20 @@
 -- `utf8::reading::read_byte` meets its contract: by what `stepped` answers, or the zero that is dropped.
 use borrow.Author.Tests.{ne-eqb}
-use Rattle.utf8.specs.Scan.{readOf}
+use Rattle.utf8.specs.Scan.{readingAfter}
 use borrow.Author.Needs.{needs}
 use Rattle.utf8.proofs.reading.read_byte.Statement.{statement}
 use Rattle.utf8.proofs.reading.read_byte.Tie as tie
 
 returns : tie.Need-returns
-unfolding readOf
+unfolding readingAfter
 returns c = rw (c .if1 .taken)
 
-stepped-requires : tie.Need-stepped-requires
-stepped-requires c κs = search needs
-
-wrapping-add-usize-requires : tie.Need-wrapping-add-usize-requires
-wrapping-add-usize-requires c κs = search needs
-
 returns-2 : tie.Need-returns-2
-unfolding readOf
+unfolding readingAfter
 returns-2 c = rw (ne-eqb _ _ (c .before .before .before .if1 .left), c .before .stepped .ensures, c .wrapping-add-usize .ensures)
 
 pub read-byte-spec : {M : Type 1} → statement M
 read-byte-spec =
-    tie.close (tie.spec returns stepped-requires wrapping-add-usize-requires returns-2)
+    tie.close
+    (tie.spec
+    returns (λ c κs. search needs) (λ c κs. search needs) returns-2)

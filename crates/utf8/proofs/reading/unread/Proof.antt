@@ -3,11 +3,11 @@ use borrow.Author.Needs.{needs}
 use Rattle.utf8.proofs.reading.unread.Statement.{statement}
 use Rattle.utf8.proofs.reading.unread.Tie as tie
 
-fresh-requires : tie.Need-fresh-requires
-fresh-requires c κs = search needs
-
 returns : tie.Need-returns
 returns c = rw (c .fresh .ensures)
 
 pub unread-spec : {M : Type 1} → statement M
-unread-spec = tie.close (tie.spec fresh-requires returns)
+unread-spec =
+    tie.close
+    (tie.spec
+    (λ c κs. search needs) returns)

@@ -5,29 +5,14 @@ use borrow.Author.Needs.{needs}
 use Rattle.utf8.proofs.scan.began.Statement.{statement}
 use Rattle.utf8.proofs.scan.began.Tie as tie
 
-length-of-first-requires : tie.Need-length-of-first-requires
-length-of-first-requires c κs = search needs
-
 returns : tie.Need-returns
 unfolding beganOf
 returns c = rw (← c .before .length-of-first .ensures, eq-eqb _ _ (c .if1 .taken))
-
-is-barred-requires : tie.Need-is-barred-requires
-is-barred-requires c κs = search needs
 
 returns-2 : tie.Need-returns-2
 unfolding beganOf
 returns-2 c =
     rw (← c .before .before .before .length-of-first .ensures, ne-eqb _ _ (c .before .before .if1 .left), ← c .before .is-barred .ensures, c .if2 .taken)
-
-sub-t6 : tie.Need-sub-t6
-sub-t6 c = search needs
-
-second-low-requires : tie.Need-second-low-requires
-second-low-requires c κs = search needs
-
-second-high-requires : tie.Need-second-high-requires
-second-high-requires c κs = search needs
 
 returns-3 : tie.Need-returns-3
 unfolding beganOf
@@ -38,11 +23,5 @@ pub began-spec : {M : Type 1} → statement M
 began-spec =
     tie.close
     (tie.spec
-    length-of-first-requires
-    returns
-    is-barred-requires
-    returns-2
-    sub-t6
-    second-low-requires
-    second-high-requires
-    returns-3)
+    (λ c κs. search needs) returns (λ c κs. search needs) returns-2 (λ c. search needs)
+    (λ c κs. search needs) (λ c κs. search needs) returns-3)

@@ -5,12 +5,6 @@ use borrow.Author.Needs.{needs}
 use Rattle.utf8.proofs.scan.ended.Statement.{statement}
 use Rattle.utf8.proofs.scan.ended.Tie as tie
 
-enum-known-s : tie.Need-enum-known-s
-enum-known-s c = search needs
-
-enum-known-s-2 : tie.Need-enum-known-s-2
-enum-known-s-2 c = search needs
-
 returns : tie.Need-returns
 unfolding endedOf
 returns c = rw (c .before .before .s2 .given .1, eq-eqb _ _ (c .if1 .taken))
@@ -24,4 +18,7 @@ unfolding endedOf
 returns-3 c = rw (c .before .before .s2 .given .1, ne-eqb _ _ (c .if1 .left))
 
 pub ended-spec : {M : Type 1} → statement M
-ended-spec = tie.close (tie.spec enum-known-s enum-known-s-2 returns returns-2 returns-3)
+ended-spec =
+    tie.close
+    (tie.spec
+    (λ c. search needs) (λ c. search needs) returns returns-2 returns-3)

@@ -5,15 +5,6 @@ use borrow.Author.Needs.{needs}
 use Rattle.utf8.proofs.scan.stepped.Statement.{statement}
 use Rattle.utf8.proofs.scan.stepped.Tie as tie
 
-enum-known-s : tie.Need-enum-known-s
-enum-known-s c = search needs
-
-enum-known-s-2 : tie.Need-enum-known-s-2
-enum-known-s-2 c = search needs
-
-began-requires : tie.Need-began-requires
-began-requires c κs = search needs
-
 returns : tie.Need-returns
 unfolding steppedOf
 returns c = rw (c .before .before .before .s2 .given .1, eq-eqb _ _ (c .before .if1 .taken)) (c .began .ensures)
@@ -25,9 +16,6 @@ returns-2 c = rw (c .before .before .before .s2 .given .1, ne-eqb _ _ (c .before
 returns-3 : tie.Need-returns-3
 unfolding steppedOf
 returns-3 c = rw (c .before .before .before .before .s2 .given .1, ne-eqb _ _ (c .before .before .if1 .left), le-leb _ _ (c .before .if2 .left), lt-leb _ _ (c .if3 .taken))
-
-sub-t11 : tie.Need-sub-t11
-sub-t11 c = search needs
 
 returns-4 : tie.Need-returns-4
 unfolding steppedOf
@@ -42,12 +30,5 @@ pub stepped-spec : {M : Type 1} → statement M
 stepped-spec =
     tie.close
     (tie.spec
-    enum-known-s
-    enum-known-s-2
-    began-requires
-    returns
-    returns-2
-    returns-3
-    sub-t11
-    returns-4
-    returns-5)
+    (λ c. search needs) (λ c. search needs) (λ c κs. search needs) returns returns-2 returns-3
+    (λ c. search needs) returns-4 returns-5)

@@ -8,9 +8,6 @@ use Rattle.standard.proofs.Left.{said}
 use Rattle.writing.proofs.device_identity.write.Statement.{statement}
 use Rattle.writing.proofs.device_identity.write.Tie as tie
 
-all-septets-requires : tie.Need-all-septets-requires
-all-septets-requires c κs = search needs
-
 returns : tie.Need-returns
 unfolding layout
 returns c = said (write-large (identity-fixed _) _ (sym (c .before .all-septets .ensures) ∙ not-true _ (c .if1 .taken)))
@@ -19,16 +16,12 @@ returns-2 : tie.Need-returns-2
 unfolding layout
 returns-2 c = said (write-short (identity-fixed _) _ (sym (c .before .before .all-septets .ensures) ∙ not-false _ (c .before .if1 .left)) (c .if2 .taken))
 
-put-requires : tie.Need-put-requires
-put-requires c κs = search needs
-
-same-length : tie.Need-same-length
-same-length c = search needs
-
 returns-3 : tie.Need-returns-3
 unfolding layout
 returns-3 c = rw (c .before .before .put .ensures) (said (write-done (identity-fixed _) _ (sym (c .before .before .before .before .before .before .all-septets .ensures) ∙ not-false _ (c .before .before .before .before .before .if1 .left)) (c .before .before .before .before .if2 .left)))
 
 pub write-spec : {M : Type 1} → statement M
 write-spec =
-    tie.close (tie.spec all-septets-requires returns returns-2 put-requires same-length returns-3)
+    tie.close
+    (tie.spec
+    (λ c κs. search needs) returns returns-2 (λ c κs. search needs) (λ c. search needs) returns-3)

@@ -12,15 +12,12 @@ returns : tie.Need-returns
 unfolding layout
 returns c = said (write-short (discovery-fixed _) _ (discovery-fits _ (omega (arith, c .before .before .good .1)) (omega (arith, c .before .before .good .1))) (c .if1 .taken))
 
-put-requires : tie.Need-put-requires
-put-requires c κs = search needs
-
-same-length : tie.Need-same-length
-same-length c = search needs
-
 returns-2 : tie.Need-returns-2
 unfolding layout
 returns-2 c = rw (c .before .before .put .ensures) (said (write-done (discovery-fixed _) _ (discovery-fits _ (omega (arith, c .before .before .before .before .before .before .good .1)) (omega (arith, c .before .before .before .before .before .before .good .1))) (c .before .before .before .before .if1 .left)))
 
 pub write-spec : {M : Type 1} → statement M
-write-spec = tie.close (tie.spec returns put-requires same-length returns-2)
+write-spec =
+    tie.close
+    (tie.spec
+    returns (λ c κs. search needs) (λ c. search needs) returns-2)

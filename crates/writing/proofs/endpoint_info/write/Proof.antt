@@ -16,15 +16,12 @@ returns-2 : tie.Need-returns-2
 unfolding layout
 returns-2 c = said (write-short (info-fixed _) _ (info-small _ (omega (arith, c .before .before .before .before .good .1)) (omega (arith, c .before .before .before .before .good .1)) (c .before .if1 .left)) (c .if2 .taken))
 
-put-requires : tie.Need-put-requires
-put-requires c κs = search needs
-
-same-length : tie.Need-same-length
-same-length c = search needs
-
 returns-3 : tie.Need-returns-3
 unfolding layout
 returns-3 c = rw (c .before .before .put .ensures) (said (write-done (info-fixed _) _ (info-small _ (omega (arith, c .before .before .before .before .before .before .before .before .good .1)) (omega (arith, c .before .before .before .before .before .before .before .before .good .1)) (c .before .before .before .before .before .if1 .left)) (c .before .before .before .before .if2 .left)))
 
 pub write-spec : {M : Type 1} → statement M
-write-spec = tie.close (tie.spec returns returns-2 put-requires same-length returns-3)
+write-spec =
+    tie.close
+    (tie.spec
+    returns returns-2 (λ c κs. search needs) (λ c. search needs) returns-3)

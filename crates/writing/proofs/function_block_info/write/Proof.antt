@@ -20,15 +20,12 @@ returns-3 : tie.Need-returns-3
 unfolding layout
 returns-3 c = said (write-short (block-fixed _) _ (block-small _ (omega (arith, c .before .before .before .before .before .before .good .1)) (omega (arith, c .before .before .before .before .before .before .good .1)) (omega (arith, c .before .before .before .before .before .before .good .1)) (c .before .before .before .if1 .left) (c .before .if2 .left)) (c .if3 .taken))
 
-put-requires : tie.Need-put-requires
-put-requires c κs = search needs
-
-same-length : tie.Need-same-length
-same-length c = search needs
-
 returns-4 : tie.Need-returns-4
 unfolding layout
 returns-4 c = rw (c .before .before .put .ensures) (said (write-done (block-fixed _) _ (block-small _ (omega (arith, c .before .before .before .before .before .before .before .before .before .before .good .1)) (omega (arith, c .before .before .before .before .before .before .before .before .before .before .good .1)) (omega (arith, c .before .before .before .before .before .before .before .before .before .before .good .1)) (c .before .before .before .before .before .before .before .if1 .left) (c .before .before .before .before .before .if2 .left)) (c .before .before .before .before .if3 .left)))
 
 pub write-spec : {M : Type 1} → statement M
-write-spec = tie.close (tie.spec returns returns-2 returns-3 put-requires same-length returns-4)
+write-spec =
+    tie.close
+    (tie.spec
+    returns returns-2 returns-3 (λ c κs. search needs) (λ c. search needs) returns-4)

@@ -3,15 +3,11 @@ use borrow.Author.Needs.{needs}
 use Rattle.records.proofs.answers.Edited.set_device_manufacturer.Statement.{statement}
 use Rattle.records.proofs.answers.Edited.set_device_manufacturer.Tie as tie
 
-set-device-manufacturer-requires : tie.Need-set-device-manufacturer-requires
-set-device-manufacturer-requires c κs = search needs
-
-then-requires : tie.Need-then-requires
-then-requires c κs = search needs
-
 returns : tie.Need-returns
 returns c = rw (c .then .ensures, c .before .set-device-manufacturer .ensures)
 
 pub set-device-manufacturer-spec : {M : Type 1} → statement M
 set-device-manufacturer-spec =
-    tie.close (tie.spec set-device-manufacturer-requires then-requires returns)
+    tie.close
+    (tie.spec
+    (λ c κs. search needs) (λ c κs. search needs) returns)

@@ -3,14 +3,11 @@ use borrow.Author.Needs.{needs}
 use Rattle.records.proofs.answers.Edited.set_function_block.Statement.{statement}
 use Rattle.records.proofs.answers.Edited.set_function_block.Tie as tie
 
-set-function-block-requires : tie.Need-set-function-block-requires
-set-function-block-requires c κs = search needs
-
-then-requires : tie.Need-then-requires
-then-requires c κs = search needs
-
 returns : tie.Need-returns
 returns c = rw (c .then .ensures, c .before .set-function-block .ensures)
 
 pub set-function-block-spec : {M : Type 1} → statement M
-set-function-block-spec = tie.close (tie.spec set-function-block-requires then-requires returns)
+set-function-block-spec =
+    tie.close
+    (tie.spec
+    (λ c κs. search needs) (λ c κs. search needs) returns)

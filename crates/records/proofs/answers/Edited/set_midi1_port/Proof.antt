@@ -3,14 +3,11 @@ use borrow.Author.Needs.{needs}
 use Rattle.records.proofs.answers.Edited.set_midi1_port.Statement.{statement}
 use Rattle.records.proofs.answers.Edited.set_midi1_port.Tie as tie
 
-set-midi1-port-requires : tie.Need-set-midi1-port-requires
-set-midi1-port-requires c κs = search needs
-
-then-requires : tie.Need-then-requires
-then-requires c κs = search needs
-
 returns : tie.Need-returns
 returns c = rw (c .then .ensures, c .before .set-midi1-port .ensures)
 
 pub set-midi1-port-spec : {M : Type 1} → statement M
-set-midi1-port-spec = tie.close (tie.spec set-midi1-port-requires then-requires returns)
+set-midi1-port-spec =
+    tie.close
+    (tie.spec
+    (λ c κs. search needs) (λ c κs. search needs) returns)

@@ -1,0 +1,52 @@
+-- `ascii_lines::put_numbers`: what is left of the numbers, put from the place reached, is all of them, put from the start.
+use Prim.Native.Nat.{_≤_, _-_}
+use mathlib.Core.Path.{_≡_, refl, _∙_}
+use lib.ListN.{length, drop}
+use Rattle.laws.proofs.Lists.{each-more, each-none}
+use Rattle.ascii_lines.specs.Numbers.{number, numbers}
+use Rattle.ascii_lines.proofs.Page.{Left, left-all, left-turn, left-none}
+use borrow.Author.Needs.{needs}
+use Rattle.ascii_lines.proofs.put_numbers.Statement.{statement}
+use Rattle.ascii_lines.proofs.put_numbers.Tie as tie
+
+abbrev Inv-loop : tie.InvT-loop
+Inv-loop out₀ at ns p₀ i₀ out p i = (i ≤ length ns) × (length out ≡ length out₀) × Left at out₀ (numbers ns) p out (numbers (drop i ns))
+
+abbrev μ-loop : tie.MeasureT-loop
+μ-loop out₀ at ns p₀ i₀ out p i = length ns - i
+
+loop-holds : tie.Need-loop-holds Inv-loop μ-loop
+loop-holds c = (search needs, refl, left-all _ _ _)
+
+mul-put-number : tie.Need-mul-put-number Inv-loop μ-loop
+mul-put-number c = search needs
+
+shared-slice-read-put-number : tie.Need-shared-slice-read-put-number Inv-loop μ-loop
+shared-slice-read-put-number c = search needs
+
+put-number-requires : tie.Need-put-number-requires Inv-loop μ-loop
+put-number-requires c κs = search needs
+
+add-i : tie.Need-add-i Inv-loop μ-loop
+add-i c = search needs
+
+loop-less : tie.Need-loop-less Inv-loop μ-loop
+loop-less c = search needs
+
+loop-again : tie.Need-loop-again Inv-loop μ-loop
+loop-again c = let l = c .before .before .before .before .before .before .loop .inv in
+    let w = c .before .before .put-number in
+    (search needs, w .kept .0 ∙ l .1, left-turn (l .2) (w .ensures) (each-more number _ _ (c .before .before .before .before .before .loop-test .taken)))
+
+same-length : tie.Need-same-length Inv-loop μ-loop
+same-length c = search needs
+
+returns : tie.Need-returns Inv-loop μ-loop
+returns c = left-none (c .before .loop .inv .2) (each-none number _ _ (c .loop-test .left))
+
+pub put-numbers-spec : {M : Type 1} → statement M
+put-numbers-spec =
+    tie.close
+    (tie.spec
+    Inv-loop μ-loop loop-holds mul-put-number shared-slice-read-put-number put-number-requires
+    add-i loop-less loop-again same-length returns)

@@ -1,0 +1,48 @@
+-- `ascii_lines::put_text`: what is left of the text, put from the place reached, is the whole, put from the start.
+use Prim.Native.Nat.{_≤_, _-_}
+use mathlib.Core.Path.{_≡_, refl, _∙_}
+use lib.ListN.{length, drop, drop-of-length-le}
+use Rattle.laws.proofs.Lists.{drop-more}
+use Rattle.ascii_lines.proofs.Page.{Left, left-all, left-turn, left-none}
+use borrow.Author.Needs.{needs}
+use Rattle.ascii_lines.proofs.put_text.Statement.{statement}
+use Rattle.ascii_lines.proofs.put_text.Tie as tie
+
+abbrev Inv-loop : tie.InvT-loop
+Inv-loop out₀ at text p₀ i₀ out p i = (i ≤ length text) × (length out ≡ length out₀) × Left at out₀ text p out (drop i text)
+
+abbrev μ-loop : tie.MeasureT-loop
+μ-loop out₀ at text p₀ i₀ out p i = length text - i
+
+loop-holds : tie.Need-loop-holds Inv-loop μ-loop
+loop-holds c = (search needs, refl, left-all _ _ _)
+
+shared-slice-read-put-byte : tie.Need-shared-slice-read-put-byte Inv-loop μ-loop
+shared-slice-read-put-byte c = search needs
+
+put-byte-requires : tie.Need-put-byte-requires Inv-loop μ-loop
+put-byte-requires c κs = search needs
+
+add-i : tie.Need-add-i Inv-loop μ-loop
+add-i c = search needs
+
+loop-less : tie.Need-loop-less Inv-loop μ-loop
+loop-less c = search needs
+
+loop-again : tie.Need-loop-again Inv-loop μ-loop
+loop-again c = let l = c .before .before .before .before .before .before .loop .inv in
+    let w = c .before .before .put-byte in
+    (search needs, w .kept .0 ∙ l .1, left-turn (l .2) (w .ensures) (drop-more _ _ (c .before .before .before .before .before .loop-test .taken)))
+
+same-length : tie.Need-same-length Inv-loop μ-loop
+same-length c = search needs
+
+returns : tie.Need-returns Inv-loop μ-loop
+returns c = left-none (c .before .loop .inv .2) (drop-of-length-le _ (c .loop-test .left))
+
+pub put-text-spec : {M : Type 1} → statement M
+put-text-spec =
+    tie.close
+    (tie.spec
+    Inv-loop μ-loop loop-holds shared-slice-read-put-byte put-byte-requires add-i loop-less
+    loop-again same-length returns)

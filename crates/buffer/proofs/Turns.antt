@@ -1,0 +1,130 @@
+-- The turns of a loop that fills a buffer: its first words are f's, the others as found. Closed by the laws of `upTo`.
+use Prim.Native.Nat.{ℕ, zero, suc, _+_, _*_, _/_, _%_, _<_, _≤_}
+use mathlib.Core.Path.{_≡_, refl, sym, ap, _∙_}
+use mathlib.Core.Logic.{⊎-elim}
+use mathlib.Core.List.{List}
+use native.Mathlib.Omega.{arith}
+use native.Mathlib.Nat.{add-zero}
+use lib.ListN.{length, getD, set, length-set}
+use lib.Seq.{ext-getD}
+use borrow.Author.Tests.{lt-ltb, le-ltb, eq-eqb, ne-eqb}
+use lib.Dec.{ltb, eqb}
+use Rattle.laws.specs.Pick.{pick}
+use Rattle.laws.specs.Lists.{upTo}
+use Rattle.laws.proofs.Pick.{below}
+use Rattle.laws.proofs.Lists.{length-upTo, upTo-more, upTo-below, upTo-rest, upTo-kept}
+use Rattle.text.specs.Written.{wordIn, wordNew, wholeWords, blank}
+use Rattle.text.proofs.Written.{word-packet}
+use Rattle.buffer.specs.Filling.{setFour, clearFrom}
+
+pub record Filled (i : ℕ) (f : ℕ → ℕ) (found ws : List ℕ) : Type 0 where
+  pub long : length ws ≡ length found
+  pub is : ws ≡ upTo i f found
+
+pub none-filled : (f : ℕ → ℕ) (ws : List ℕ) → Filled 0 f ws ws
+unfolding upTo
+none-filled f ws = record { long = refl; is = refl }
+
+pub is-filled : (i : ℕ) (f : ℕ → ℕ) (found ws : List ℕ) → ws ≡ upTo i f found → Filled i f found ws
+is-filled i f found ws e = record { long = rw e (length-upTo i f found); is = e }
+
+module _ {i : ℕ} {f : ℕ → ℕ} {found ws : List ℕ} (w : Filled i f found ws) where
+  -- from i on the buffer is as found
+  pub filled-rest : (k : ℕ) → i ≤ k → getD ws k 0 ≡ getD found k 0
+  filled-rest k h = rw (w .is) (upTo-rest i f found k h)
+
+  -- one word more
+  pub more-filled : (a : ℕ) → i < length found → a ≡ f i → Filled (i + 1) f found (set ws i a)
+  more-filled a h e = record { long = simp length-set (w .long); is = rw (w .is, e) (upTo-more i f found h) }
+
+  -- a word that f leaves
+  pub kept-filled : i < length found → f i ≡ getD found i 0 → Filled (suc i) f found ws
+  kept-filled h e = record { long = w .long; is = w .is ∙ sym (upTo-kept i f found h e) }
+
+  -- the last turn
+  pub all-filled : (j : ℕ) → i ≡ j → ws ≡ upTo j f found
+  all-filled j e = rw (← e) (w .is)
+
+-- nothing filled yet, where f leaves the first i words
+pub found-filled : (i : ℕ) (f : ℕ → ℕ) (ws : List ℕ) → i ≤ length ws → ((k : ℕ) → k < i → f k ≡ getD ws k 0) → Filled i f ws ws
+found-filled zero f ws l h = none-filled f ws
+found-filled (suc i) f ws l h = kept-filled (found-filled i f ws (omega arith) (λ k m. h k (omega arith))) (omega arith) (h i (omega arith))
+
+-- four words more
+pub four-filled : {f : ℕ → ℕ} {found ws : List ℕ} (g : ℕ → ℕ) (k : ℕ) → Filled k f found ws → k + 4 ≤ length found → g 0 ≡ f k → g 1 ≡ f (k + 1) → g 2 ≡ f (k + 2) → g 3 ≡ f (k + 3) → Filled (k + 4) f found (setFour g k ws)
+four-filled {f} {found} g k w h e₀ e₁ e₂ e₃ =
+    let s₂ : k + 1 + 1 ≡ k + 2 = omega arith in
+    let s₃ : k + 2 + 1 ≡ k + 3 = omega arith in
+    let s₄ : k + 3 + 1 ≡ k + 4 = omega arith in
+    let one = more-filled w (g 0) (omega arith) e₀ in
+    let two = (rw s₂ at (more-filled one (g 1) (omega arith) e₁)) in
+    let three = (rw s₃ at (more-filled two (g 2) (omega arith) e₂)) in
+    rw s₄ at (more-filled three (g 3) (omega arith) e₃)
+
+-- the packet's words
+pub text-more : (text : List ℕ) (head : ℕ → ℕ) (cap n p : ℕ) {found ws : List ℕ} → Filled (p * 4) (wordNew text head cap n) found ws → p < n → p * 4 + 4 ≤ length found → Filled ((p + 1) * 4) (wordNew text head cap n) found (setFour (wordIn text head cap n p) (p * 4) ws)
+text-more text head cap n p {found} {ws} w h l =
+    let m : p * 4 + 4 ≡ (p + 1) * 4 = omega arith in
+    let z = word-packet text head cap n p 0 h (omega arith) in
+    rw m at
+    (four-filled {f = wordNew text head cap n} {found = found} {ws = ws} (wordIn text head cap n p) (p * 4) w l
+    (sym (rw (add-zero (p * 4)) at z)) (sym (word-packet text head cap n p 1 h (omega arith))) (sym (word-packet text head cap n p 2 h (omega arith))) (sym (word-packet text head cap n p 3 h (omega arith))))
+
+-- what is filled up to word i, and zero from there on
+module _ (f : ℕ → ℕ) (i : ℕ) (ws : List ℕ) (l : i ≤ wholeWords ws) (z : (k : ℕ) → i ≤ k → 0 ≡ f k) where
+  abbrev cleared : ℕ → ℕ
+  cleared k = pick (ltb k i) (getD (upTo i f ws) k 0) 0
+
+  is-cleared : (k : ℕ) → k < length ws → cleared k ≡ f k
+  is-cleared k h = ⊎-elim (λ (m : k < i). rw (lt-ltb k i m) (upTo-below i f ws k m h)) (λ (m : i ≤ k). rw (le-ltb k i m) (z k m)) (below k i)
+
+  pub clear-rest : clearFrom i (upTo i f ws) ≡ upTo (wholeWords ws) f ws
+  unfolding clearFrom
+  clear-rest =
+      rw (length-upTo i f ws)
+      (ext-getD 0 _ _ (length-upTo (wholeWords ws) cleared (upTo i f ws) ∙ length-upTo i f ws ∙ sym (length-upTo (wholeWords ws) f ws))
+      (λ k h. at k (rw (length-upTo (wholeWords ws) cleared (upTo i f ws), length-upTo i f ws) at h)))
+    where
+      at : (k : ℕ) → k < length ws → getD (upTo (wholeWords ws) cleared (upTo i f ws)) k 0 ≡ getD (upTo (wholeWords ws) f ws) k 0
+      at k h =
+          ⊎-elim (λ (m : k < wholeWords ws). upTo-below (wholeWords ws) cleared (upTo i f ws) k m (rw (length-upTo i f ws) h) ∙ is-cleared k h ∙ sym (upTo-below (wholeWords ws) f ws k m h))
+          (λ (m : wholeWords ws ≤ k). upTo-rest (wholeWords ws) cleared (upTo i f ws) k m ∙ upTo-rest i f ws k (omega arith) ∙ sym (upTo-rest (wholeWords ws) f ws k m)) (below k (wholeWords ws))
+
+pub length-cleared : (i : ℕ) (ws : List ℕ) → length (clearFrom i ws) ≡ length ws
+unfolding clearFrom
+length-cleared i ws = length-upTo _ _ ws
+
+-- every packet zero, with a head in the first
+module _ (head : ℕ) (ws : List ℕ) where
+  pub blank-none : length ws < 4 → ws ≡ blank head ws
+  unfolding blank upTo
+  blank-none h = let e : length ws / 4 * 4 ≡ 0 = omega arith in rw e
+
+  pub blank-cleared : 4 ≤ length ws → clearFrom 1 (set ws 0 head) ≡ blank head ws
+  unfolding blank
+  blank-cleared h =
+      let f : ℕ → ℕ = λ k. pick (eqb k 0) head 0 in
+      let w : Filled (0 + 1) f ws (set ws 0 head) = more-filled (none-filled f ws) head (omega arith) refl in
+      ap (clearFrom 1) (w .is) ∙ clear-rest f 1 ws (omega arith) (λ k l. rw (ne-eqb k 0 (λ e. omega arith)))
+
+-- a change of the first word of each packet
+abbrev pub firsts : (ℕ → ℕ) → List ℕ → ℕ → ℕ
+firsts change ws k = pick (eqb (k % 4) 0) (change (getD ws k 0)) (getD ws k 0)
+
+module _ (change : ℕ → ℕ) (ws : List ℕ) (k : ℕ) where
+  is-first : k % 4 ≡ 0 → firsts change ws k ≡ change (getD ws k 0)
+  is-first h = rw (eq-eqb (k % 4) 0 h)
+
+  no-first : (k % 4 ≡ 0 → ⊥) → firsts change ws k ≡ getD ws k 0
+  no-first h = rw (ne-eqb (k % 4) 0 h)
+
+-- one packet more
+pub packet-filled : (change : ℕ → ℕ) {found ws : List ℕ} (p a : ℕ) → Filled (p * 4) (firsts change found) found ws → (p + 1) * 4 ≤ length found → a ≡ change (getD ws (p * 4) 0) → Filled ((p + 1) * 4) (firsts change found) found (set ws (p * 4) a)
+packet-filled change {found} {ws} p a w h e =
+    let q : a ≡ firsts change found (p * 4) = e ∙ ap change (filled-rest w (p * 4) (omega arith)) ∙ sym (is-first change found (p * 4) (omega arith)) in
+    let one = more-filled w a (omega arith) q in
+    let two = kept-filled one (omega arith) (no-first change found (p * 4 + 1) (λ z. omega arith)) in
+    let three = kept-filled two (omega arith) (no-first change found (suc (p * 4 + 1)) (λ z. omega arith)) in
+    let four = kept-filled three (omega arith) (no-first change found (suc (suc (p * 4 + 1))) (λ z. omega arith)) in
+    let m : suc (suc (suc (p * 4 + 1))) ≡ (p + 1) * 4 = omega arith in
+    rw m at four

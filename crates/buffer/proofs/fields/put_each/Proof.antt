@@ -1,0 +1,71 @@
+-- `fields::put_each` meets its contract, by the laws of `Turns` and `Pick` of laws, turn by turn.
+use Prim.Native.Nat.{_≤_, _-_, _*_, _/_}
+use mathlib.Core.Path.{refl}
+use native.Mathlib.Omega.{arith}
+use lib.ListN.{length}
+use borrow.Author.Tests.{lt-ltb, le-ltb}
+use Rattle.laws.proofs.Pick.{here, past}
+use Rattle.text.specs.Written.{eachFirst}
+use Rattle.buffer.specs.Filling.{putSafe, putEach}
+use Rattle.buffer.proofs.Turns.{Filled, firsts, none-filled, packet-filled, all-filled}
+use borrow.Author.Needs.{needs}
+use Rattle.buffer.proofs.fields.put_each.Statement.{statement}
+use Rattle.buffer.proofs.fields.put_each.Tie as tie
+
+abbrev Inv-loop : tie.InvT-loop
+Inv-loop words₀ at span v n p₀ words p = (n ≤ length words₀ / 4) × (p ≤ n) × Filled (p * 4) (firsts (λ w. putSafe w at span v) words₀) words₀ words
+
+abbrev μ-loop : tie.MeasureT-loop
+μ-loop words₀ at span v n p₀ words p = n - p
+
+returns : tie.Need-returns Inv-loop μ-loop
+unfolding putEach
+returns c = here _ (lt-ltb _ _ (c .if1 .taken)) refl
+
+loop-holds : tie.Need-loop-holds Inv-loop μ-loop
+loop-holds c = (omega arith, omega arith, none-filled _ _)
+
+mul-with-field : tie.Need-mul-with-field Inv-loop μ-loop
+mul-with-field c = omega arith
+
+mul-with-field-2 : tie.Need-mul-with-field-2 Inv-loop μ-loop
+mul-with-field-2 c = search needs
+
+slice-read-with-field : tie.Need-slice-read-with-field Inv-loop μ-loop
+slice-read-with-field c = omega arith
+
+with-field-requires : tie.Need-with-field-requires Inv-loop μ-loop
+with-field-requires c κs = search needs
+
+mul-words : tie.Need-mul-words Inv-loop μ-loop
+mul-words c = search needs
+
+mul-words-2 : tie.Need-mul-words-2 Inv-loop μ-loop
+mul-words-2 c = search needs
+
+slice-write-words : tie.Need-slice-write-words Inv-loop μ-loop
+slice-write-words c = omega arith
+
+add-p : tie.Need-add-p Inv-loop μ-loop
+add-p c = omega arith
+
+loop-less : tie.Need-loop-less Inv-loop μ-loop
+loop-less c = omega arith
+
+loop-again : tie.Need-loop-again Inv-loop μ-loop
+loop-again c = let a = c .before .before .before .before .before .before .args in (c .before .before .before .loop .inv .0, omega arith, packet-filled (λ w. putSafe w (a .at) (a .span) (a .v)) (c .before .before .before .loop .p) _ (c .before .before .before .loop .inv .2) (omega arith) (c .with-field .ensures))
+
+same-length : tie.Need-same-length Inv-loop μ-loop
+same-length c = c .before .loop .inv .2 .long
+
+returns-2 : tie.Need-returns-2 Inv-loop μ-loop
+unfolding putEach eachFirst
+returns-2 c = past _ (le-ltb _ _ (c .before .before .if1 .left)) (all-filled (c .before .loop .inv .2) _ (omega arith))
+
+pub put-each-spec : {M : Type 1} → statement M
+put-each-spec =
+    tie.close
+    (tie.spec
+    Inv-loop μ-loop returns loop-holds mul-with-field mul-with-field-2 slice-read-with-field
+    with-field-requires mul-words mul-words-2 slice-write-words add-p loop-less loop-again
+    same-length returns-2)

@@ -1,0 +1,21 @@
+-- `fields::too_large` meets its contract, by the bound of so many bits.
+use Prim.Native.Nat.{_^_, _≤_}
+use mathlib.Core.Path.{sym}
+use native.Mathlib.Omega.{arith}
+use lib.Pow.{pow-mono}
+use borrow.Author.Tests.{lt-leb}
+use borrow.Author.Needs.{needs}
+use Rattle.buffer.proofs.fields.too_large.Statement.{statement}
+use Rattle.buffer.proofs.fields.too_large.Tie as tie
+
+returns : tie.Need-returns
+returns c = let m : 2 ^ 32 ≤ 2 ^ (c .before .args .span) = pow-mono (c .if1 .taken) in sym (lt-leb _ (c .before .args .v) (omega arith))
+
+returns-2 : tie.Need-returns-2
+returns-2 c = rw (c .power .ensures)
+
+pub too-large-spec : {M : Type 1} → statement M
+too-large-spec =
+    tie.close
+    (tie.spec
+    returns (λ c κs. search needs) returns-2)

@@ -1,0 +1,54 @@
+-- `packets::clear_from` meets its contract, by the laws of `Turns`, turn by turn.
+use Prim.Native.Nat.{_≤_, _-_, _*_, _/_}
+use mathlib.Core.Path.{_≡_, refl}
+use native.Mathlib.Omega.{arith}
+use lib.ListN.{length, getD}
+use lib.Dec.{ltb}
+use borrow.Author.Tests.{lt-ltb, le-ltb}
+use Rattle.laws.specs.Pick.{pick}
+use Rattle.buffer.specs.Filling.{clearFrom}
+use Rattle.buffer.proofs.Turns.{Filled, found-filled, more-filled, all-filled}
+use borrow.Author.Needs.{needs}
+use Rattle.buffer.proofs.packets.clear_from.Statement.{statement}
+use Rattle.buffer.proofs.packets.clear_from.Tie as tie
+
+abbrev Inv-loop : tie.InvT-loop
+Inv-loop words₀ from end k₀ words k = (end ≡ length words₀ / 4 * 4) × (from ≤ k) × (k ≤ end) × Filled k (λ i. pick (ltb i from) (getD words₀ i 0) 0) words₀ words
+
+abbrev μ-loop : tie.MeasureT-loop
+μ-loop words₀ from end k₀ words k = end - k
+
+mul-end : tie.Need-mul-end Inv-loop μ-loop
+mul-end c = search needs
+
+loop-holds : tie.Need-loop-holds Inv-loop μ-loop
+loop-holds c = (refl, omega arith, c .pre, found-filled _ _ _ (omega (arith, c .pre)) (λ k h. rw (lt-ltb k _ h)))
+
+mul-words : tie.Need-mul-words Inv-loop μ-loop
+mul-words c = search needs
+
+slice-write-words : tie.Need-slice-write-words Inv-loop μ-loop
+slice-write-words c = omega arith
+
+add-k : tie.Need-add-k Inv-loop μ-loop
+add-k c = omega arith
+
+loop-less : tie.Need-loop-less Inv-loop μ-loop
+loop-less c = omega arith
+
+loop-again : tie.Need-loop-again Inv-loop μ-loop
+loop-again c = (refl, omega arith, omega arith, more-filled (c .before .loop .inv .3) _ (omega arith) (rw (le-ltb (c .before .loop .k) _ (c .before .loop .inv .1))))
+
+same-length : tie.Need-same-length Inv-loop μ-loop
+same-length c = c .before .loop .inv .3 .long
+
+returns : tie.Need-returns Inv-loop μ-loop
+unfolding clearFrom
+returns c = all-filled (c .before .loop .inv .3) _ (omega arith)
+
+pub clear-from-spec : {M : Type 1} → statement M
+clear-from-spec =
+    tie.close
+    (tie.spec
+    Inv-loop μ-loop mul-end loop-holds mul-words slice-write-words add-k loop-less loop-again
+    same-length returns)

@@ -1,0 +1,48 @@
+-- `texts::fill_packets` meets its contract, by the laws of `Turns`, turn by turn.
+use Prim.Native.Nat.{_≤_, _-_, _*_}
+use native.Mathlib.Omega.{arith}
+use Rattle.text.specs.Written.{wordNew}
+use Rattle.buffer.specs.Filling.{formatted}
+use Rattle.buffer.proofs.Turns.{Filled, none-filled, text-more, all-filled}
+use borrow.Author.Needs.{needs}
+use Rattle.buffer.proofs.texts.fill_packets.Statement.{statement}
+use Rattle.buffer.proofs.texts.fill_packets.Tie as tie
+
+abbrev Inv-loop : tie.InvT-loop
+Inv-loop words₀ text offset head n m p₀ words p = (p ≤ m) × Filled (p * 4) (wordNew text (formatted head) (14 - offset) n) words₀ words
+
+abbrev μ-loop : tie.MeasureT-loop
+μ-loop words₀ text offset head n m p₀ words p = m - p
+
+loop-holds : tie.Need-loop-holds Inv-loop μ-loop
+loop-holds c = (omega arith, none-filled _ _)
+
+fill-packet-requires : tie.Need-fill-packet-requires Inv-loop μ-loop
+fill-packet-requires c κs =
+    let s = c .before .before .before .before .before in
+    (s .pre .0, omega (arith, c .before .loop-test .taken, s .pre .1, s .pre .2), omega (arith, c .before .loop-test .taken, s .pre .3, c .before .before .loop .inv .1 .long))
+
+add-p : tie.Need-add-p Inv-loop μ-loop
+add-p c = search needs
+
+loop-less : tie.Need-loop-less Inv-loop μ-loop
+loop-less c = search needs
+
+loop-again : tie.Need-loop-again Inv-loop μ-loop
+loop-again c =
+    let s = c .before .before .before .before .before .before .before .before in
+    let l = c .before .before .before .before .before .loop in
+    let t = c .before .before .before .before .loop-test .taken in
+    (omega (arith, t), rw (c .before .before .fill-packet .ensures) (text-more _ _ _ _ _ (l .inv .1) (omega (arith, t, s .pre .2)) (omega (arith, t, s .pre .3))))
+
+same-length : tie.Need-same-length Inv-loop μ-loop
+same-length c = c .before .loop .inv .1 .long
+
+returns : tie.Need-returns Inv-loop μ-loop
+returns c = all-filled (c .before .loop .inv .1) _ (omega arith)
+
+pub fill-packets-spec : {M : Type 1} → statement M
+fill-packets-spec =
+    tie.close
+    (tie.spec
+    Inv-loop μ-loop loop-holds fill-packet-requires add-p loop-less loop-again same-length returns)

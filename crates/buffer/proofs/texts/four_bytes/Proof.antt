@@ -1,0 +1,18 @@
+-- `texts::four_bytes` meets its contract, by the laws of `Fours` of text.
+use mathlib.Core.Path.{_∙_}
+use Rattle.text.proofs.Fours.{joined-in}
+use borrow.Author.Needs.{needs}
+use Rattle.buffer.proofs.texts.four_bytes.Statement.{statement}
+use Rattle.buffer.proofs.texts.four_bytes.Tie as tie
+
+returns : tie.Need-returns
+returns c = c .joined .ensures ∙ joined-in _ _ (c .before .if1 .taken)
+
+pub four-bytes-spec : {M : Type 1} → statement M
+four-bytes-spec =
+    tie.close
+    (tie.spec
+    (λ c. search needs) (λ c κs. search needs) returns (λ c κs. search needs) (λ c. search needs)
+    (λ c κs. search needs) (λ c. search needs) (λ c κs. search needs) (λ c. search needs)
+    (λ c κs. search needs) (λ c. search needs) (λ c. search needs) (λ c. search needs)
+    (λ c. search needs) (λ c. search needs) (λ c. search needs) (λ c. search needs))

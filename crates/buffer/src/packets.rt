@@ -1,0 +1,28 @@
+// Whole packets of a buffer made zero: all of them, with a head in the first, or those from a word on.
+ghost use mathlib.Core.Path.{_≡_};
+ghost use Prim.Native.Nat.{_≤_};
+ghost use Rattle.text.specs.Written.{wholeWords, blank};
+ghost use Rattle.buffer.specs.Filling.{clearFrom};
+
+// Every word from word `from` on, up to the last whole packet's end.
+pub(crate) fn clear_from(words: &mut [u32], from: usize)
+    requires { ⌜ from ≤ wholeWords (now words) ⌝ }
+    ensures { λ _. ⌜ now (words .exit) ≡ clearFrom from (now (words .entry)) ⌝ }
+{
+    let end = words.len() / 4 * 4;
+    let mut k = from;
+    while k < end {
+        words[k] = 0;
+        k += 1;
+    }
+}
+
+pub fn clear(words: &mut [u32], head: u32)
+    ensures { λ _. ⌜ now (words .exit) ≡ blank head (now (words .entry)) ⌝ }
+{
+    if words.len() < 4 {
+        return;
+    }
+    words[0] = head;
+    clear_from(words, 1);
+}

@@ -1,0 +1,16 @@
+-- `answers::of_answer` meets its contract, case by case.
+use borrow.Author.Needs.{needs}
+use Rattle.c_structs.proofs.answers.of_answer.Statement.{statement}
+use Rattle.c_structs.proofs.answers.of_answer.Tie as tie
+
+returns : tie.Need-returns
+returns c = rw (c .enum-told .given .1)
+
+returns-2 : tie.Need-returns-2
+returns-2 c = rw (c .before .before .answer .given .1, c .of-refusal .ensures)
+
+pub of-answer-spec : {M : Type 1} → statement M
+of-answer-spec =
+    tie.close
+    (tie.spec
+    (λ c. search needs) (λ c. search needs) (λ c κs. search needs) returns returns-2)

@@ -1,0 +1,19 @@
+-- `numbers::of_function_block_info` meets its contract, by the laws of `Numbers` of records and `Parts` of bit_ops.
+use Rattle.records.proofs.Numbers.{block-numbers}
+use Rattle.bit_ops.proofs.Parts.{bit-byte}
+use Rattle.kinds.specs.Layout.{layout}
+use borrow.Author.Needs.{needs}
+use Rattle.c_structs.proofs.numbers.of_function_block_info.Statement.{statement}
+use Rattle.c_structs.proofs.numbers.of_function_block_info.Tie as tie
+
+returns : tie.Need-returns
+unfolding layout
+returns c = rw (block-numbers _, bit-byte, c .before .before .before .before .before .before .hint-code .ensures, c .before .before .before .before .before .port-code .ensures, c .before .before .before .before .direction-code .ensures)
+
+pub of-function-block-info-spec : {M : Type 1} → statement M
+of-function-block-info-spec =
+    tie.close
+    (tie.spec
+    (λ c. search needs) (λ c. search needs) (λ c κs. search needs) (λ c κs. search needs)
+    (λ c κs. search needs) (λ c. search needs) (λ c. search needs) (λ c. search needs)
+    (λ c. search needs) returns)

@@ -1,0 +1,101 @@
+-- EACH ANSWER AS IT CROSSES: document 01's numbers, and 0 where the answer has none.
+use Prim.Native.Nat.{ℕ}
+use mathlib.Core.List.{List, [], _∷_}
+use lib.ListN.{getD}
+use Rattle.kinds.specs.Refusals.{refusalNumber, refusalPlace}
+use Rattle.kinds.specs.Choices.{formatCode}
+use Rattle.kinds.specs.Layout.{layout}
+use Rattle.kinds.specs.declared.refusal.Refusal.{Refusal}
+use Rattle.text.specs.declared.Stepped.{Stepped}
+use Rattle.text.specs.declared.TextStep.{TextStep}
+use Rattle.text.specs.declared.TextStep.the-variants as T
+use Rattle.records.specs.declared.message.Message.{Message}
+use Rattle.records.specs.declared.answers.Read.{Read}
+use Rattle.records.specs.declared.answers.Read.the-variants as R
+use Rattle.records.specs.declared.answers.Walked.{Walked}
+use Rattle.records.specs.declared.answers.Walked.the-variants as W
+use Rattle.records.specs.declared.answers.PacketRead.{PacketRead}
+use Rattle.records.specs.declared.answers.PacketRead.the-variants as P
+use Rattle.records.specs.declared.answers.MessageSize.{MessageSize}
+use Rattle.records.specs.declared.answers.MessageSize.the-variants as S
+use Rattle.records.specs.declared.answers.Answer.{Answer}
+use Rattle.records.specs.declared.answers.Answer.the-variants as A
+use Rattle.records.specs.Records.{kindIn, packetsIn, numbersIn}
+use Rattle.standard.specs.Packet.{packetFormat}
+use Rattle.c_structs.specs.declared.numbers.Numbers.{Numbers}
+use Rattle.c_structs.specs.declared.answers.Answered.{Answered}
+use Rattle.c_structs.specs.declared.answers.RecordAnswer.{RecordAnswer}
+use Rattle.c_structs.specs.declared.answers.WalkAnswer.{WalkAnswer}
+use Rattle.c_structs.specs.declared.answers.PacketAnswer.{PacketAnswer}
+use Rattle.c_structs.specs.declared.answers.SizeAnswer.{SizeAnswer}
+use Rattle.c_structs.specs.declared.answers.StepAnswer.{StepAnswer}
+
+-- ---- a record: its status, its packets, and its numbers in the table's order
+abbrev pub numbered : ℕ → ℕ → List ℕ → Numbers
+numbered s p ns =
+    record {
+      status = s;
+      packets = p;
+      first = getD ns 0 0;
+      second = getD ns 1 0;
+      third = getD ns 2 0;
+      fourth = getD ns 3 0;
+      fifth = getD ns 4 0;
+      sixth = getD ns 5 0;
+      seventh = getD ns 6 0;
+      eighth = getD ns 7 0;
+      ninth = getD ns 8 0;
+    }
+
+abbrev pub crossed : Message → Numbers
+crossed m = numbered (layout (kindIn m) .status) (packetsIn m) (numbersIn m)
+
+-- a record with one number
+abbrev pub lone : ℕ → ℕ → ℕ → Numbers
+lone s p n = numbered s p (n ∷ [])
+
+abbrev pub noNumbers : Numbers
+noNumbers = lone 0 0 0
+
+-- ---- answers
+abbrev pub answered : Answer → Answered
+answered A.Done = record { refusal = 0; place = 0 }
+answered (A.Refused r) = record { refusal = refusalNumber r; place = refusalPlace r }
+
+abbrev pub withRecord : Message → RecordAnswer
+withRecord m = record { refusal = 0; place = 0; numbers = crossed m }
+
+abbrev pub withRefusal : Refusal → Numbers → RecordAnswer
+withRefusal r c = record { refusal = refusalNumber r; place = refusalPlace r; numbers = c }
+
+abbrev pub readCrossed : Read → RecordAnswer
+readCrossed (R.Message m) = withRecord m
+readCrossed (R.Refused r) = withRefusal r noNumbers
+
+-- 0 the end, 1 another type, 2 a message, 3 a refusal
+abbrev pub walkCrossed : Walked → WalkAnswer
+walkCrossed W.End = record { found = 0; refusal = 0; place = 0; «ump_type» = 0; size = 0; next = 0; numbers = noNumbers }
+walkCrossed (W.Other t size next) = record { found = 1; refusal = 0; place = 0; «ump_type» = t; size = size .0; next = next .0; numbers = noNumbers }
+walkCrossed (W.Message m next) = record { found = 2; refusal = 0; place = 0; «ump_type» = 0; size = 0; next = next .0; numbers = crossed m }
+walkCrossed (W.Refused r next) = record { found = 3; refusal = refusalNumber r; place = refusalPlace r; «ump_type» = 0; size = 0; next = next .0; numbers = noNumbers }
+
+abbrev pub packetCrossed : PacketRead → PacketAnswer
+packetCrossed (P.Packet p) = record { refusal = 0; place = 0; format = formatCode (packetFormat p); first = p .0; second = p .1; third = p .2; fourth = p .3 }
+packetCrossed (P.Refused r) = record { refusal = refusalNumber r; place = refusalPlace r; format = 0; first = 0; second = 0; third = 0; fourth = 0 }
+
+abbrev pub sizeCrossed : MessageSize → SizeAnswer
+sizeCrossed (S.Words n) = record { refusal = 0; place = 0; words = n .0 }
+sizeCrossed (S.Refused r) = record { refusal = refusalNumber r; place = refusalPlace r; words = 0 }
+
+-- a byte of the text is never 0, so 0 is the end
+abbrev pub byteCrossed : TextStep → ℕ
+byteCrossed (T.Byte b) = b
+byteCrossed T.End = 0
+
+abbrev pub stepCrossed : Stepped → StepAnswer
+stepCrossed s = record { byte = byteCrossed (s .step); packet = s .place .packet .0; «byte_number» = s .place .byte .0 }
+
+-- refused, the numbers are handed back as they came
+abbrev pub editedCrossed : Answer → Message → Numbers → RecordAnswer
+editedCrossed A.Done m c = withRecord m
+editedCrossed (A.Refused r) m c = withRefusal r c

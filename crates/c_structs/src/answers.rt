@@ -1,0 +1,241 @@
+// Answers as structs of numbers. A refusal's number is 0 where nothing was refused.
+ghost use mathlib.Core.Path.{_≡_};
+ghost use Rattle.records.specs.declared.answers.Answer.{Answer};
+ghost use Rattle.c_structs.specs.Crossed.{answered, withRefusal, readCrossed, walkCrossed, packetCrossed, sizeCrossed, byteCrossed, stepCrossed, editedCrossed};
+use crate::numbers::Numbers;
+use crate::numbers::no_numbers;
+use crate::numbers::of_message;
+use kinds::choices::format_code;
+use kinds::refusal::Refusal;
+use kinds::refusal::refusal_number;
+use kinds::refusal::refusal_place;
+use reading::packet;
+use records::answers::Answer;
+use records::answers::Edited;
+use records::answers::MessageSize;
+use records::answers::PacketRead;
+use records::answers::Read;
+use records::answers::Walked;
+use text::Stepped;
+use text::TextStep;
+
+#[repr(C)]
+pub struct Answered {
+    pub refusal: u32,
+    pub place: usize,
+}
+
+#[repr(C)]
+pub struct RecordAnswer {
+    pub refusal: u32,
+    pub place: usize,
+    pub numbers: Numbers,
+}
+
+// 0 the end, 1 another type, 2 a message, 3 a refusal.
+#[repr(C)]
+pub struct WalkAnswer {
+    pub found: u32,
+    pub refusal: u32,
+    pub place: usize,
+    pub ump_type: u32,
+    pub size: usize,
+    pub next: usize,
+    pub numbers: Numbers,
+}
+
+#[repr(C)]
+pub struct PacketAnswer {
+    pub refusal: u32,
+    pub place: usize,
+    pub format: u32,
+    pub first: u32,
+    pub second: u32,
+    pub third: u32,
+    pub fourth: u32,
+}
+
+#[repr(C)]
+pub struct SizeAnswer {
+    pub refusal: u32,
+    pub place: usize,
+    pub words: usize,
+}
+
+// The byte, 0 at the end, and the place after it.
+#[repr(C)]
+pub struct StepAnswer {
+    pub byte: u32,
+    pub packet: usize,
+    pub byte_number: usize,
+}
+
+pub fn of_refusal(refusal: Refusal) -> Answered
+    ensures { λ r. ⌜ r ≡ answered (Answer.Refused refusal) ⌝ }
+{
+    Answered {
+        refusal: refusal_number(refusal),
+        place: refusal_place(refusal),
+    }
+}
+
+pub fn of_answer(answer: Answer) -> Answered
+    ensures { λ r. ⌜ r ≡ answered answer ⌝ }
+{
+    match answer {
+        Answer::Done => Answered {
+            refusal: 0,
+            place: 0,
+        },
+        Answer::Refused(refusal) => of_refusal(refusal),
+    }
+}
+
+// A record that is handed back as it came.
+pub fn refused_record(refusal: Refusal, numbers: Numbers) -> RecordAnswer
+    ensures { λ r. ⌜ r ≡ withRefusal refusal numbers ⌝ }
+{
+    RecordAnswer {
+        refusal: refusal_number(refusal),
+        place: refusal_place(refusal),
+        numbers,
+    }
+}
+
+pub fn of_read(read: Read) -> RecordAnswer
+    ensures { λ r. ⌜ r ≡ readCrossed read ⌝ }
+{
+    match read {
+        Read::Message(message) => RecordAnswer {
+            refusal: 0,
+            place: 0,
+            numbers: of_message(message),
+        },
+        Read::Refused(refusal) => refused_record(refusal, no_numbers()),
+    }
+}
+
+pub fn of_walked(walked: Walked) -> WalkAnswer
+    ensures { λ r. ⌜ r ≡ walkCrossed walked ⌝ }
+{
+    match walked {
+        Walked::End => WalkAnswer {
+            found: 0,
+            refusal: 0,
+            place: 0,
+            ump_type: 0,
+            size: 0,
+            next: 0,
+            numbers: no_numbers(),
+        },
+        Walked::Other {
+            ump_type,
+            size,
+            next,
+        } => WalkAnswer {
+            found: 1,
+            refusal: 0,
+            place: 0,
+            ump_type,
+            size: size.0,
+            next: next.0,
+            numbers: no_numbers(),
+        },
+        Walked::Message { message, next } => WalkAnswer {
+            found: 2,
+            refusal: 0,
+            place: 0,
+            ump_type: 0,
+            size: 0,
+            next: next.0,
+            numbers: of_message(message),
+        },
+        Walked::Refused { refusal, next } => WalkAnswer {
+            found: 3,
+            refusal: refusal_number(refusal),
+            place: refusal_place(refusal),
+            ump_type: 0,
+            size: 0,
+            next: next.0,
+            numbers: no_numbers(),
+        },
+    }
+}
+
+pub fn of_packet(read: PacketRead) -> PacketAnswer
+    ensures { λ r. ⌜ r ≡ packetCrossed read ⌝ }
+{
+    match read {
+        PacketRead::Packet(p) => PacketAnswer {
+            refusal: 0,
+            place: 0,
+            format: format_code(packet::format(p)),
+            first: p.0,
+            second: p.1,
+            third: p.2,
+            fourth: p.3,
+        },
+        PacketRead::Refused(refusal) => PacketAnswer {
+            refusal: refusal_number(refusal),
+            place: refusal_place(refusal),
+            format: 0,
+            first: 0,
+            second: 0,
+            third: 0,
+            fourth: 0,
+        },
+    }
+}
+
+pub fn of_size(size: MessageSize) -> SizeAnswer
+    ensures { λ r. ⌜ r ≡ sizeCrossed size ⌝ }
+{
+    match size {
+        MessageSize::Words(n) => SizeAnswer {
+            refusal: 0,
+            place: 0,
+            words: n.0,
+        },
+        MessageSize::Refused(refusal) => SizeAnswer {
+            refusal: refusal_number(refusal),
+            place: refusal_place(refusal),
+            words: 0,
+        },
+    }
+}
+
+fn byte_of(step: TextStep) -> u32
+    ensures { λ r. ⌜ r ≡ byteCrossed step ⌝ }
+{
+    match step {
+        TextStep::Byte(b) => b as u32,
+        TextStep::End => 0,
+    }
+}
+
+pub fn of_step(stepped: Stepped) -> StepAnswer
+    ensures { λ r. ⌜ r ≡ stepCrossed stepped ⌝ }
+{
+    let step = stepped.step;
+    StepAnswer {
+        byte: byte_of(step),
+        packet: stepped.place.packet.0,
+        byte_number: stepped.place.byte.0,
+    }
+}
+
+// A setting on the record that these numbers are.
+pub fn of_edited(edited: Edited, numbers: Numbers) -> RecordAnswer
+    ensures { λ r. ⌜ r ≡ editedCrossed (edited .answer) (edited .message) numbers ⌝ }
+{
+    let answer = edited.answer;
+    let message = edited.message;
+    match answer {
+        Answer::Done => RecordAnswer {
+            refusal: 0,
+            place: 0,
+            numbers: of_message(message),
+        },
+        Answer::Refused(refusal) => refused_record(refusal, numbers),
+    }
+}
