@@ -5,47 +5,40 @@ use mathlib.Core.Bool.{true, false}
 use mathlib.Core.List.{List}
 use native.Mathlib.Omega.{arith}
 use lib.ListN.{length}
+use lib.Dec.{ltb}
 use borrow.Author.Tests.{eq-eqb, ne-eqb}
-use Rattle.laws.specs.Pick.{both}
-use Rattle.slots.specs.Slots.{fits}
+use Rattle.laws.proofs.Pick.{true-false}
+use Rattle.slots.specs.Slots.{fits, within}
+use Rattle.kinds.proofs.Rows.{row-right}
 use Rattle.kinds.specs.declared.refusal.Refusal.the-variants.{NumberTooLarge, NoSuchField, NoRoom}
-use Rattle.kinds.specs.Layout.{fixed, layout, parts}
+use Rattle.kinds.specs.Layout.{Body, fixed, texts, layout, mostIn, hasText, parts}
 use Rattle.records.specs.declared.message.Message.{Message}
-use Rattle.records.specs.declared.message.Message.the-variants as M
-use Rattle.records.specs.declared.endpoint_discovery.EndpointDiscovery.{EndpointDiscovery}
-use Rattle.records.specs.declared.endpoint_info.EndpointInfo.{EndpointInfo}
-use Rattle.records.specs.declared.device_identity.DeviceIdentity.{DeviceIdentity}
-use Rattle.records.specs.declared.function_block_info.FunctionBlockInfo.{FunctionBlockInfo}
 use Rattle.records.specs.declared.answers.Answer.the-variants as A
 use Rattle.records.specs.Records.{kindIn, valuesOf}
-use Rattle.standard.specs.Words.{left, unchanged, hasText, encodeIn, encode, writeOn}
-use Rattle.buffer.proofs.Puts.{inWord, ins-put}
+use Rattle.standard.specs.Words.{left, unchanged, encodeIn, encode, writeOn}
+use Rattle.buffer.proofs.Puts.{ins-put}
 use Rattle.writing.specs.Put.{putRecord}
 
 pub write-text : (m : Message) (ws : List ℕ) → hasText (layout (kindIn m) .body) ≡ true → writeOn m ws ≡ unchanged NoSuchField ws
 unfolding writeOn
 write-text m ws t = rw t
 
+-- a kind without text is one packet
+pub text-most : (b : Body) → ltb 1 (mostIn b) ≡ hasText b
+text-most fixed = refl
+text-most (texts t from) = refl
+
 -- a fixed kind, each of whose slots lies within a word
 pub record Fixed (m : Message) : Type 0 where
   pub body : layout (kindIn m) .body ≡ fixed
-  pub narrow : inWord (layout (kindIn m) .fields) ≡ true
+  pub narrow : within 32 (layout (kindIn m) .fields) ≡ true
 
-pub discovery-fixed : (e : EndpointDiscovery) → Fixed (M.EndpointDiscovery e)
-unfolding layout inWord both
-discovery-fixed e = record { body = refl; narrow = refl }
+no-text : (b : Body) → hasText b ≡ false → b ≡ fixed
+no-text fixed e = refl
+no-text (texts t from) e = true-false e
 
-pub info-fixed : (e : EndpointInfo) → Fixed (M.EndpointInfo e)
-unfolding layout inWord both
-info-fixed e = record { body = refl; narrow = refl }
-
-pub identity-fixed : (e : DeviceIdentity) → Fixed (M.DeviceIdentity e)
-unfolding layout inWord both
-identity-fixed e = record { body = refl; narrow = refl }
-
-pub block-fixed : (e : FunctionBlockInfo) → Fixed (M.FunctionBlockInfo e)
-unfolding layout inWord both
-block-fixed e = record { body = refl; narrow = refl }
+pub fixed-kind : (m : Message) → hasText (layout (kindIn m) .body) ≡ false → Fixed m
+fixed-kind m e = record { body = no-text _ e; narrow = row-right (kindIn m) .bits }
 
 module _ {m : Message} (k : Fixed m) (ws : List ℕ) where
   pub write-large : fits (layout (kindIn m) .fields) (parts (valuesOf m)) ≡ false → writeOn m ws ≡ unchanged NumberTooLarge ws
