@@ -1,4 +1,5 @@
 -- A RECORD COMES BACK FROM ITS NUMBERS, and accepted numbers are those of the record that they make. Closed by computing the table at each kind, and the laws of the codes.
+use Prim.Native.Nat.{ℕ}
 use mathlib.Core.Path.{_≡_, refl, sym, ap, _∙_}
 use mathlib.Core.Bool.{true, false}
 use mathlib.Core.Logic.{_≢_}

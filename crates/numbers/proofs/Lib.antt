@@ -1,4 +1,4 @@
 pub mod BySlot
 pub mod Accepted
-pub mod SlotLaws
+pub mod Computed
 pub mod Back

@@ -1,7 +1,7 @@
 // A record as numbers and back: what crosses to C, and what the listing and writing go over.
 pub mod by_slot;
+pub mod in_slots;
 pub mod of_record;
-pub mod slots;
 pub mod to_record;
 
 // A record's status, its packets, and its fields in the table's order; 0 past the kind's last.

@@ -4,7 +4,7 @@ ghost use Rattle.kinds.specs.declared.kind.Kind.the-variants as K;
 ghost use Rattle.records.specs.Records.{recordOf};
 ghost use Rattle.numbers.specs.FromNumbers.{Fitting, valuesFrom, fromKind, fromNumbers};
 use crate::Numbers;
-use crate::slots::slots_fit;
+use crate::in_slots::slots_fit;
 use counts::PacketNumber;
 use kinds::choices::direction_of;
 use kinds::choices::hint_of;
