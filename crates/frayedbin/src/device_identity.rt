@@ -14,8 +14,8 @@ use c_structs::answers::refused_record;
 use numbers::Numbers;
 use numbers::to_record::FromNumbers;
 use numbers::to_record::record_from;
-use table::names::PairName;
 use settings::device_identity;
+use table::names::PairName;
 
 #[no_mangle]
 pub extern "C" fn frayedbin_device_identity_set_device_manufacturer(
@@ -78,7 +78,10 @@ pub extern "C" fn frayedbin_record_set_device_manufacturer(
     ensures { λ r. ⌜ r ≡ setIn (λ m. Setting.device-manufacturer a b c) «record» ⌝ }
 {
     match record_from(record) {
-        FromNumbers::Message(message) => of_edited(message.set_device_manufacturer(a, b, c), record),
+        FromNumbers::Message(message) => of_edited(
+            message.set_device_manufacturer(a, b, c),
+            record,
+        ),
         FromNumbers::Refused(refusal) => refused_record(refusal, record),
     }
 }
@@ -111,7 +114,10 @@ pub extern "C" fn frayedbin_record_set_software_version(
     ensures { λ r. ⌜ r ≡ setIn (λ m. Setting.software-version a b c d) «record» ⌝ }
 {
     match record_from(record) {
-        FromNumbers::Message(message) => of_edited(message.set_software_version(a, b, c, d), record),
+        FromNumbers::Message(message) => of_edited(
+            message.set_software_version(a, b, c, d),
+            record,
+        ),
         FromNumbers::Refused(refusal) => refused_record(refusal, record),
     }
 }

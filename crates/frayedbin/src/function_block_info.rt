@@ -23,9 +23,9 @@ use c_structs::choices::port_from_code;
 use numbers::Numbers;
 use numbers::to_record::FromNumbers;
 use numbers::to_record::record_from;
+use settings::function_block_info;
 use table::names::FlagName;
 use table::names::NumberName;
-use settings::function_block_info;
 
 #[no_mangle]
 pub extern "C" fn frayedbin_function_block_info_set_active(words: &mut [u32], on: bool) -> Answered

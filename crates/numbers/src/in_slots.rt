@@ -15,7 +15,17 @@ fn plain_slots(c: Numbers) -> [u32; 11]
     ensures { λ r. ⌜ r ≡ plainSlots c ⌝ }
 {
     [
-        c.first, c.second, c.third, c.fourth, c.fifth, c.sixth, c.seventh, c.eighth, c.ninth, 0, 0,
+        c.first,
+        c.second,
+        c.third,
+        c.fourth,
+        c.fifth,
+        c.sixth,
+        c.seventh,
+        c.eighth,
+        c.ninth,
+        0,
+        0,
     ]
 }
 

@@ -51,7 +51,12 @@ pub fn set_direction(words: &mut [u32], direction: Direction) -> Answer
     ensures answer { λ r. ⌜ r ≡ setOn (Setting.direction direction) (now (words .entry)) .answer ⌝ }
     ensures buffer { λ r. ⌜ now (words .exit) ≡ setOn (Setting.direction direction) (now (words .entry)) .words ⌝ }
 {
-    set_slot(words, Kind::FunctionBlockInfo, DIRECTION, direction_code(direction))
+    set_slot(
+        words,
+        Kind::FunctionBlockInfo,
+        DIRECTION,
+        direction_code(direction),
+    )
 }
 
 pub fn set_first_group(words: &mut [u32], group: u32) -> Answer

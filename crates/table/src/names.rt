@@ -37,9 +37,13 @@ pub enum PairName {
 
 // First slots of the fields that are no flag, number or pair.
 pub const UI_HINT: u8 = 2;
+
 pub const MIDI1_PORT: u8 = 3;
+
 pub const DIRECTION: u8 = 4;
+
 pub const DEVICE_MANUFACTURER: u8 = 0;
+
 pub const SOFTWARE_VERSION: u8 = 7;
 
 // The kind that has a field, and the field's first slot.
