@@ -4,10 +4,6 @@ ghost use Rattle.kinds.specs.Fields.{Flag, Number, Setting};
 ghost use Rattle.standard.specs.Words.{setOn};
 ghost use Rattle.c_structs.specs.Crossed.{answered};
 ghost use Rattle.frayedbin.specs.Calls.{hintOn, portOn, directionOn, setIn, hintIn, portIn, directionIn};
-use crate::named::flag_in;
-use crate::named::flag_on;
-use crate::named::number_in;
-use crate::named::number_on;
 use c_structs::answers::Answered;
 use c_structs::answers::RecordAnswer;
 use c_structs::answers::of_answer;
@@ -20,6 +16,8 @@ use c_structs::choices::PortFromCode;
 use c_structs::choices::direction_from_code;
 use c_structs::choices::hint_from_code;
 use c_structs::choices::port_from_code;
+use crate::named::flag_on;
+use crate::named::number_on;
 use numbers::Numbers;
 use numbers::to_record::FromNumbers;
 use numbers::to_record::record_from;
@@ -141,7 +139,10 @@ pub extern "C" fn frayedbin_function_block_info_set_max_number_of_midi_ci_stream
 pub extern "C" fn frayedbin_record_set_active(record: Numbers, on: bool) -> RecordAnswer
     ensures { λ r. ⌜ r ≡ setIn (λ m. Setting.flag Flag.active on) «record» ⌝ }
 {
-    flag_in(record, FlagName::Active, on)
+    match record_from(record) {
+        FromNumbers::Message(message) => of_edited(message.set_active(on), record),
+        FromNumbers::Refused(refusal) => refused_record(refusal, record),
+    }
 }
 
 #[no_mangle]
@@ -151,7 +152,10 @@ pub extern "C" fn frayedbin_record_set_function_block_number(
 ) -> RecordAnswer
     ensures { λ r. ⌜ r ≡ setIn (λ m. Setting.number Number.function-block-number number) «record» ⌝ }
 {
-    number_in(record, NumberName::FunctionBlockNumber, number)
+    match record_from(record) {
+        FromNumbers::Message(message) => of_edited(message.set_function_block_number(number), record),
+        FromNumbers::Refused(refusal) => refused_record(refusal, record),
+    }
 }
 
 #[no_mangle]
@@ -197,7 +201,10 @@ pub extern "C" fn frayedbin_record_set_direction(record: Numbers, code: u32) -> 
 pub extern "C" fn frayedbin_record_set_first_group(record: Numbers, group: u32) -> RecordAnswer
     ensures { λ r. ⌜ r ≡ setIn (λ m. Setting.number Number.first-group group) «record» ⌝ }
 {
-    number_in(record, NumberName::FirstGroup, group)
+    match record_from(record) {
+        FromNumbers::Message(message) => of_edited(message.set_first_group(group), record),
+        FromNumbers::Refused(refusal) => refused_record(refusal, record),
+    }
 }
 
 #[no_mangle]
@@ -207,7 +214,10 @@ pub extern "C" fn frayedbin_record_set_number_of_groups_spanned(
 ) -> RecordAnswer
     ensures { λ r. ⌜ r ≡ setIn (λ m. Setting.number Number.number-of-groups-spanned number) «record» ⌝ }
 {
-    number_in(record, NumberName::NumberOfGroupsSpanned, number)
+    match record_from(record) {
+        FromNumbers::Message(message) => of_edited(message.set_number_of_groups_spanned(number), record),
+        FromNumbers::Refused(refusal) => refused_record(refusal, record),
+    }
 }
 
 #[no_mangle]
@@ -217,7 +227,10 @@ pub extern "C" fn frayedbin_record_set_midi_ci_version(
 ) -> RecordAnswer
     ensures { λ r. ⌜ r ≡ setIn (λ m. Setting.number Number.midi-ci-version version) «record» ⌝ }
 {
-    number_in(record, NumberName::MidiCiVersion, version)
+    match record_from(record) {
+        FromNumbers::Message(message) => of_edited(message.set_midi_ci_version(version), record),
+        FromNumbers::Refused(refusal) => refused_record(refusal, record),
+    }
 }
 
 #[no_mangle]
@@ -227,5 +240,8 @@ pub extern "C" fn frayedbin_record_set_max_number_of_midi_ci_streams(
 ) -> RecordAnswer
     ensures { λ r. ⌜ r ≡ setIn (λ m. Setting.number Number.max-number-of-midi-ci-streams number) «record» ⌝ }
 {
-    number_in(record, NumberName::MaxNumberOfMidiCiStreams, number)
+    match record_from(record) {
+        FromNumbers::Message(message) => of_edited(message.set_max_number_of_midi_ci_streams(number), record),
+        FromNumbers::Refused(refusal) => refused_record(refusal, record),
+    }
 }

@@ -4,7 +4,6 @@ ghost use Rattle.kinds.specs.Fields.{Text, Setting};
 ghost use Rattle.records.specs.Records.{kindIn};
 ghost use Rattle.records.specs.Settings.{majorOf, minorOf, nameOf};
 ghost use Rattle.frayedbin.specs.Calls.{setIn};
-use crate::named::number_in;
 use c_structs::answers::RecordAnswer;
 use c_structs::answers::of_edited;
 use c_structs::answers::refused_record;
@@ -20,7 +19,10 @@ pub extern "C" fn frayedbin_record_set_ump_version_major(
 ) -> RecordAnswer
     ensures { λ r. ⌜ r ≡ setIn (λ m. Setting.number (majorOf (kindIn m)) version) «record» ⌝ }
 {
-    number_in(record, NumberName::InfoVersionMajor, version)
+    match record_from(record) {
+        FromNumbers::Message(message) => of_edited(message.set_ump_version_major(version), record),
+        FromNumbers::Refused(refusal) => refused_record(refusal, record),
+    }
 }
 
 #[no_mangle]
@@ -30,7 +32,10 @@ pub extern "C" fn frayedbin_record_set_ump_version_minor(
 ) -> RecordAnswer
     ensures { λ r. ⌜ r ≡ setIn (λ m. Setting.number (minorOf (kindIn m)) version) «record» ⌝ }
 {
-    number_in(record, NumberName::InfoVersionMinor, version)
+    match record_from(record) {
+        FromNumbers::Message(message) => of_edited(message.set_ump_version_minor(version), record),
+        FromNumbers::Refused(refusal) => refused_record(refusal, record),
+    }
 }
 
 #[no_mangle]

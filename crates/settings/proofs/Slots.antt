@@ -24,14 +24,14 @@ use Rattle.standard.specs.Heads.{packetsOf}
 use Rattle.standard.specs.Walk.{walkOf}
 use Rattle.standard.specs.Words.{left, unchanged, missing, answerTo, actIn, setOn}
 use Rattle.buffer.specs.Filling.{putIn, putIns}
-use Rattle.table.specs.declared.places.Place.{Place}
-use Rattle.table.specs.Places.{slotAt, PlaceIs}
+use Rattle.table.specs.Places.{slotAt}
 use Rattle.numbers.specs.BySlot.{fitFrom, putFrom}
 use Rattle.buffer.proofs.Puts.{ins-put}
+use Rattle.settings.specs.declared.fixed.Home.{Home}
 use Rattle.settings.specs.declared.target.Target.{Target}
 use Rattle.settings.specs.declared.target.Target.the-variants as T
 use Rattle.settings.specs.Target.{targetOf, settled}
-use Rattle.settings.specs.Fixed.{fitted, placeOn, slotOn, slotsOn}
+use Rattle.settings.specs.Fixed.{fitted, placeOn, slotOn, HomeIs, slotsOn}
 use Rattle.settings.proofs.Owned.{ownedBy, own-has, Own, set-refused, set-own}
 use Rattle.settings.proofs.Settled.{settled-refused, settled-own}
 
@@ -50,10 +50,10 @@ module _ (status word at span v : ℕ) (ws : List ℕ) where
     unfolding placeOn
     place-done h = settled-own _ ws e ∙ rw (lt-ltb v (2 ^ span) (leb-false (2 ^ span) v h))
 
--- the place that the code was given for a slot
-pub slot-told : (k : Kind) (i v : ℕ) (ws : List ℕ) {status : ℕ} {p : Place} → status ≡ layout k .status → PlaceIs (slotAt (layout k .fields) i) p → placeOn status (p .0) (p .1) (p .2) v ws ≡ slotOn k i v ws
+-- by the home that the code was given for a slot
+pub home-told : {k : Kind} {i : ℕ} (v : ℕ) (ws : List ℕ) {h : Home} → HomeIs k i h → slotOn k i v ws ≡ placeOn (h .0) (h .1) (h .2) (h .3) v ws
 unfolding slotOn
-slot-told k i v ws e p = rw (e, p .word, p .low, p .width)
+home-told v ws h = rw (h .status, h .word, h .low, h .width)
 
 module _ (k : Kind) (i : ℕ) (xs ws : List ℕ) where
   pub slots-refused : {r : Refusal} → targetOf (layout k .status) (walkOf ws 0) ≡ T.Refused r → slotsOn k i xs ws ≡ unchanged r ws

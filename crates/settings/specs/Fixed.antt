@@ -1,5 +1,6 @@
 -- Settings of fixed kinds: what the target refuses, then 12; else the numbers are put into their slots.
 use Prim.Native.Nat.{ℕ, _^_}
+use mathlib.Core.Path.{_≡_}
 use mathlib.Core.Bool.{Bool}
 use mathlib.Core.List.{List}
 use lib.Dec.{ltb}
@@ -13,6 +14,7 @@ use Rattle.numbers.specs.BySlot.{fitFrom, putFrom}
 use Rattle.records.specs.declared.answers.Answer.the-variants as A
 use Rattle.standard.specs.Walk.{walkOf}
 use Rattle.standard.specs.Words.{Left, left, unchanged}
+use Rattle.settings.specs.declared.fixed.Home.{Home}
 use Rattle.settings.specs.Target.{targetOf, settled}
 
 -- refusal 12 where a number does not fit, else these words
@@ -28,6 +30,13 @@ placeOn status word at span v ws =
 unfoldable pub slotOn : Kind → ℕ → ℕ → List ℕ → Left
 slotOn k i v ws =
     placeOn (layout k .status) (slotAt (layout k .fields) i .word) (slotAt (layout k .fields) i .at) (slotAt (layout k .fields) i .span) v ws
+
+-- where the code says that slot i of a kind stands
+pub record HomeIs (k : Kind) (i : ℕ) (r : Home) : Type 0 where
+  pub status : r .0 ≡ layout k .status
+  pub word : r .1 ≡ slotAt (layout k .fields) i .word
+  pub low : r .2 ≡ slotAt (layout k .fields) i .at
+  pub width : r .3 ≡ slotAt (layout k .fields) i .span
 
 -- numbers in the slots of a kind, from slot i on
 unfoldable pub slotsOn : Kind → ℕ → List ℕ → List ℕ → Left

@@ -1,6 +1,6 @@
 // Settings of fixed kinds by slot: one number, or several in slots one after another.
 ghost use mathlib.Core.Path.{_≡_};
-ghost use Rattle.settings.specs.Fixed.{placeOn, slotOn, slotsOn};
+ghost use Rattle.settings.specs.Fixed.{placeOn, HomeIs, slotsOn};
 use crate::target::Target;
 use crate::target::find_target;
 use buffer::fields::put_field;
@@ -13,8 +13,20 @@ use records::answers::Answer;
 use table::places::place_of;
 use table::rows::row_of;
 
+// Where a slot stands: the status of its kind, its word, lowest bit and width.
+pub(crate) struct Home(pub u32, pub usize, pub usize, pub usize);
+
+// Callers give constants, so that the compiler looks the slot up.
+pub(crate) fn home_of(kind: Kind, slot: u8) -> Home
+    ensures { λ r. ⌜ HomeIs kind slot r ⌝ }
+{
+    let row = row_of(kind);
+    let place = place_of(kind, slot as usize);
+    Home(row.status, place.0, place.1, place.2)
+}
+
 // The refusals of the target, then 12; else the number is put into the `span` bits from bit `at` on.
-fn set_place(words: &mut [u32], status: u32, word: usize, at: usize, span: usize, v: u32) -> Answer
+pub(crate) fn set_place(words: &mut [u32], status: u32, word: usize, at: usize, span: usize, v: u32) -> Answer
     ensures answer { λ r. ⌜ r ≡ placeOn status word at span v (now (words .entry)) .answer ⌝ }
     ensures buffer { λ r. ⌜ now (words .exit) ≡ placeOn status word at span v (now (words .entry)) .words ⌝ }
 {
@@ -28,16 +40,6 @@ fn set_place(words: &mut [u32], status: u32, word: usize, at: usize, span: usize
             Answer::Done
         }
     }
-}
-
-// One number. Callers name the slot by constants, so that the compiler looks the place up.
-pub(crate) fn set_slot(words: &mut [u32], kind: Kind, slot: u8, v: u32) -> Answer
-    ensures answer { λ r. ⌜ r ≡ slotOn kind slot v (now (words .entry)) .answer ⌝ }
-    ensures buffer { λ r. ⌜ now (words .exit) ≡ slotOn kind slot v (now (words .entry)) .words ⌝ }
-{
-    let row = row_of(kind);
-    let place = place_of(kind, slot as usize);
-    set_place(words, row.status, place.0, place.1, place.2, v)
 }
 
 // Several numbers, the first in slot `first`.

@@ -2,7 +2,8 @@
 ghost use mathlib.Core.Path.{_≡_};
 ghost use Rattle.kinds.specs.Fields.{Flag, Number, Setting};
 ghost use Rattle.standard.specs.Words.{setOn};
-use crate::fixed::set_slot;
+use crate::fixed::home_of;
+use crate::fixed::set_place;
 use crate::named::set_flag;
 use crate::named::set_number;
 use kinds::choices::Direction;
@@ -37,26 +38,24 @@ pub fn set_ui_hint(words: &mut [u32], hint: UiHint) -> Answer
     ensures answer { λ r. ⌜ r ≡ setOn (Setting.ui-hint hint) (now (words .entry)) .answer ⌝ }
     ensures buffer { λ r. ⌜ now (words .exit) ≡ setOn (Setting.ui-hint hint) (now (words .entry)) .words ⌝ }
 {
-    set_slot(words, Kind::FunctionBlockInfo, UI_HINT, hint_code(hint))
+    let home = home_of(Kind::FunctionBlockInfo, UI_HINT);
+    set_place(words, home.0, home.1, home.2, home.3, hint_code(hint))
 }
 
 pub fn set_midi1_port(words: &mut [u32], port: Midi1Port) -> Answer
     ensures answer { λ r. ⌜ r ≡ setOn (Setting.midi1-port port) (now (words .entry)) .answer ⌝ }
     ensures buffer { λ r. ⌜ now (words .exit) ≡ setOn (Setting.midi1-port port) (now (words .entry)) .words ⌝ }
 {
-    set_slot(words, Kind::FunctionBlockInfo, MIDI1_PORT, port_code(port))
+    let home = home_of(Kind::FunctionBlockInfo, MIDI1_PORT);
+    set_place(words, home.0, home.1, home.2, home.3, port_code(port))
 }
 
 pub fn set_direction(words: &mut [u32], direction: Direction) -> Answer
     ensures answer { λ r. ⌜ r ≡ setOn (Setting.direction direction) (now (words .entry)) .answer ⌝ }
     ensures buffer { λ r. ⌜ now (words .exit) ≡ setOn (Setting.direction direction) (now (words .entry)) .words ⌝ }
 {
-    set_slot(
-        words,
-        Kind::FunctionBlockInfo,
-        DIRECTION,
-        direction_code(direction),
-    )
+    let home = home_of(Kind::FunctionBlockInfo, DIRECTION);
+    set_place(words, home.0, home.1, home.2, home.3, direction_code(direction))
 }
 
 pub fn set_first_group(words: &mut [u32], group: u32) -> Answer

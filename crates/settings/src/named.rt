@@ -3,7 +3,8 @@ ghost use mathlib.Core.Path.{_≡_};
 ghost use Rattle.kinds.specs.Fields.{Setting};
 ghost use Rattle.table.specs.Named.{flagNamed, numberNamed, pairNamed};
 ghost use Rattle.standard.specs.Words.{setOn};
-use crate::fixed::set_slot;
+use crate::fixed::home_of;
+use crate::fixed::set_place;
 use crate::fixed::set_slots;
 use records::answers::Answer;
 use table::names::FlagName;
@@ -19,7 +20,8 @@ pub fn set_flag(words: &mut [u32], flag: FlagName, on: bool) -> Answer
 {
     let at = flag_at(flag);
     let kind = at.0;
-    set_slot(words, kind, at.1, on as u32)
+    let home = home_of(kind, at.1);
+    set_place(words, home.0, home.1, home.2, home.3, on as u32)
 }
 
 pub fn set_number(words: &mut [u32], number: NumberName, x: u32) -> Answer
@@ -28,7 +30,8 @@ pub fn set_number(words: &mut [u32], number: NumberName, x: u32) -> Answer
 {
     let at = number_at(number);
     let kind = at.0;
-    set_slot(words, kind, at.1, x)
+    let home = home_of(kind, at.1);
+    set_place(words, home.0, home.1, home.2, home.3, x)
 }
 
 // The low seven bits first.
