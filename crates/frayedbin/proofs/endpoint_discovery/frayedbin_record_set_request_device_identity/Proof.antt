@@ -1,0 +1,13 @@
+-- `endpoint_discovery::frayedbin_record_set_request_device_identity` meets its contract, as the calls that it makes.
+use borrow.Author.Needs.{needs}
+use Rattle.frayedbin.proofs.endpoint_discovery.frayedbin_record_set_request_device_identity.Statement.{statement}
+use Rattle.frayedbin.proofs.endpoint_discovery.frayedbin_record_set_request_device_identity.Tie as tie
+
+pub frayedbin-record-set-request-device-identity-spec : {M : Type 1} → statement M
+frayedbin-record-set-request-device-identity-spec =
+    tie.close
+    (tie.spec
+    (λ c κs. search needs) (λ c. search needs) (λ c κs. search needs) (λ c κs. search needs)
+    (λ c. search needs) (λ c κs. search needs)
+    (λ c. rw (c .of-edited .ensures, c .before .set-request-device-identity .ensures, ← c .before .before .before .before .before .record-from .ensures, c .before .before .before .message .given .1))
+    (λ c. rw (c .refused-record .ensures, ← c .before .before .before .before .record-from .ensures, c .before .before .refusal .given .1)))

@@ -1,0 +1,13 @@
+-- `function_block_info::frayedbin_record_set_function_block_number` meets its contract, as the calls that it makes.
+use borrow.Author.Needs.{needs}
+use Rattle.frayedbin.proofs.function_block_info.frayedbin_record_set_function_block_number.Statement.{statement}
+use Rattle.frayedbin.proofs.function_block_info.frayedbin_record_set_function_block_number.Tie as tie
+
+pub frayedbin-record-set-function-block-number-spec : {M : Type 1} → statement M
+frayedbin-record-set-function-block-number-spec =
+    tie.close
+    (tie.spec
+    (λ c κs. search needs) (λ c. search needs) (λ c κs. search needs) (λ c κs. search needs)
+    (λ c. search needs) (λ c κs. search needs)
+    (λ c. rw (c .of-edited .ensures, c .before .set-function-block-number .ensures, ← c .before .before .before .before .before .record-from .ensures, c .before .before .before .message .given .1))
+    (λ c. rw (c .refused-record .ensures, ← c .before .before .before .before .record-from .ensures, c .before .before .refusal .given .1)))
