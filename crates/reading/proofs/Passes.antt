@@ -14,7 +14,7 @@ use Rattle.laws.proofs.Pick.{true-false, split, here, past, passed, eq-differ, 
 use Rattle.utf8.specs.Utf8.{firstBad}
 use Rattle.text.specs.Octets.{due}
 use Rattle.text.specs.Bytes.{textOf}
-use Rattle.fast_text.specs.Fast.{isGood}
+use Rattle.text_check.specs.Fast.{isGood}
 use Rattle.kinds.specs.declared.kind.Kind.{Kind}
 use Rattle.kinds.specs.Layout.{mostOf}
 use Rattle.standard.specs.Heads.{typeOf, formatOf, streamType, headAt, packetsOf}

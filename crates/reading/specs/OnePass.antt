@@ -9,7 +9,7 @@ use Rattle.laws.specs.Bits.{putField}
 use Rattle.utf8.specs.Utf8.{firstBad}
 use Rattle.text.specs.Octets.{due}
 use Rattle.text.specs.Bytes.{textOf}
-use Rattle.fast_text.specs.Fast.{isGood}
+use Rattle.text_check.specs.Fast.{isGood}
 use Rattle.kinds.specs.declared.kind.Kind.{Kind}
 use Rattle.kinds.specs.declared.kind.Kind.the-variants as K
 use Rattle.kinds.specs.Layout.{mostOf}

@@ -20,7 +20,7 @@ use crate::product_instance_id;
 use crate::rules::Rule;
 use crate::rules::first_broken;
 use counts::PacketNumber;
-use fast_text::good_text;
+use text_check::good_text;
 use kinds::kind::Kind;
 use kinds::kind::Known;
 use kinds::refusal::Refusal;

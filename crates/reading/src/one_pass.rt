@@ -6,7 +6,7 @@ ghost use Rattle.reading.specs.OnePass.{textBits, headBits, likeFirst, e
 use crate::heads::format_of;
 use crate::heads::type_of;
 use counts::PacketNumber;
-use fast_text::good_text;
+use text_check::good_text;
 use kinds::kind::Kind;
 use text::packets::due_format;
 

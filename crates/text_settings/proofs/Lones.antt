@@ -12,8 +12,8 @@ use Rattle.laws.specs.Pick.{pick, differ}
 use Rattle.laws.proofs.Pick.{true-false, passed, differ-false}
 use Rattle.counts.specs.Counts.{packet}
 use Rattle.text.specs.Octets.{due}
-use Rattle.fast_text.specs.Fast.{isGood, plainWord, plainPacket}
-use Rattle.fast_text.proofs.Plains.{plain-good, plain-later}
+use Rattle.text_check.specs.Fast.{isGood, plainWord, plainPacket}
+use Rattle.text_check.proofs.Plains.{plain-good, plain-later}
 use Rattle.kinds.specs.declared.kind.Kind.{Kind}
 use Rattle.kinds.specs.declared.kind.Kind.the-variants as K
 use Rattle.kinds.specs.Layout.{layout, capacityOf}

@@ -10,7 +10,7 @@ use Rattle.laws.specs.Bits.{fieldOf}
 use Rattle.counts.specs.Counts.{packet}
 use Rattle.utf8.specs.Utf8.{firstBad}
 use Rattle.text.specs.Octets.{needed}
-use Rattle.fast_text.specs.Fast.{plainPacket}
+use Rattle.text_check.specs.Fast.{plainPacket}
 use Rattle.kinds.specs.declared.kind.Kind.{Kind}
 use Rattle.kinds.specs.Layout.{layout, capacityOf}
 use Rattle.kinds.specs.declared.refusal.Refusal.the-variants.{TooManyPackets, NotUtf8, NoRoom}

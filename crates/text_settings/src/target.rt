@@ -5,7 +5,7 @@ ghost use Rattle.standard.specs.Walk.{walkOf};
 ghost use Rattle.settings.specs.Target.{targetOf};
 ghost use Rattle.text_settings.specs.Texts.{loneOf, LoneHead};
 use counts::PacketNumber;
-use fast_text::plain::plain_packet;
+use text_check::plain::plain_packet;
 use kinds::kind::Kind;
 use reading::heads::status_of;
 use reading::one_pass::text_packets;

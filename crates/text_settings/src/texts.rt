@@ -6,7 +6,7 @@ ghost use Rattle.text.specs.Octets.{needed};
 ghost use Rattle.text_settings.specs.Texts.{LoneHead, roomOf, planOf, textOn};
 use crate::target::find_near_target;
 use counts::PacketNumber;
-use fast_text::check_utf8;
+use text_check::check_utf8;
 use buffer::texts::fill_text;
 use kinds::kind::Kind;
 use kinds::refusal::Refusal;

@@ -1,0 +1,21 @@
+-- `table::moves` meets its contract: a row for each class.
+use mathlib.Core.Path.{sym}
+use lib.ListN.{List·getD-eq-default}
+use borrow.Author.Needs.{needs}
+use Rattle.text_check.specs.Fast.{move-list}
+use Rattle.laws.proofs.Bytes.{missed}
+use Rattle.text_check.proofs.table.moves.Statement.{statement}
+use Rattle.text_check.proofs.table.moves.Tie as tie
+
+returns-16 : tie.Need-returns-16
+returns-16 c =
+    sym (List·getD-eq-default move-list 0x30c30c30c30c30 {n = c .before .args .k} (missed 15 _ (c .match .rest)))
+
+pub moves-spec : {M : Type 1} → statement M
+moves-spec =
+    tie.close
+    (tie.spec
+    (λ c. search needs) (λ c. search needs) (λ c. search needs) (λ c. search needs)
+    (λ c. search needs) (λ c. search needs) (λ c. search needs) (λ c. search needs)
+    (λ c. search needs) (λ c. search needs) (λ c. search needs) (λ c. search needs)
+    (λ c. search needs) (λ c. search needs) (λ c. search needs) returns-16)

@@ -1,0 +1,45 @@
+// The UTF-8 check over the text of packets, with zeros dropped as they come: the text is nowhere put together.
+ghost use mathlib.Core.Path.{_≡_};
+ghost use Prim.Native.Nat.{_-_, _/_};
+ghost use lib.ListN.{length};
+ghost use Rattle.utf8.specs.Utf8.{firstBad};
+ghost use Rattle.text.specs.Bytes.{textOf};
+use counts::PacketNumber;
+use counts::TextByteNumber;
+use text::TextPlace;
+use text::by_byte;
+use utf8::Utf8;
+use utf8::reading;
+use utf8::scan;
+use utf8::scan::Scan;
+
+// Whether the text of the whole packets is UTF-8, and where its first bad character starts. It stops there.
+pub(crate) fn check_text(words: &[u32], offset: usize) -> Utf8
+    ensures { λ r. ⌜ r ≡ firstBad (textOf (now (words .entry)) (14 - offset) (length (now (words .entry)) / 4)) ⌝ }
+{
+    if 14 <= offset {
+        return Utf8::Good;
+    }
+    let count = words.len() / 4;
+    let mut r = reading::unread();
+    let mut p = 0;
+    let mut b = 0;
+    while p < count {
+        let at = TextPlace {
+            packet: PacketNumber(p),
+            byte: TextByteNumber(b),
+        };
+        r = reading::read_byte(r, by_byte::text_byte(words, offset, at));
+        let s = r.scan;
+        if let Scan::Stopped(n) = s {
+            return Utf8::BadAt(n);
+        }
+        b += 1;
+        if b == 14 - offset {
+            b = 0;
+            p += 1;
+        }
+    }
+    let s = r.scan;
+    scan::ended(s)
+}
