@@ -10,7 +10,7 @@ use Rattle.fields.specs.Named.{numberNamed}
 use Rattle.records.specs.declared.message.Message.{Message}
 use Rattle.records.specs.Records.{kindIn}
 use Rattle.records.specs.Settings.{majorOf, minorOf, setRecord}
-use Rattle.standard.specs.Words.{Left, unchanged, setOn, writeOn}
+use Rattle.standard.specs.Words.{Outcome, unchanged, setOn, writeOn}
 use Rattle.c_structs.specs.declared.numbers.Numbers.{Numbers}
 use Rattle.c_structs.specs.declared.answers.RecordAnswer.{RecordAnswer}
 use Rattle.c_structs.specs.declared.given.Given.{Given}
@@ -29,25 +29,25 @@ abbrev pub placeAt : ℕ → ℕ → TextPlace
 placeAt p b = record { packet = packet p; byte = byte b }
 
 -- ---- choices set on words: a code that names none is refused before the words are looked at
-abbrev hintSet : HintGiven → List ℕ → Left
+abbrev hintSet : HintGiven → List ℕ → Outcome
 hintSet (H.Is h) ws = setOn (Setting.ui-hint h) ws
 hintSet (H.Refused r) ws = unchanged r ws
 
-abbrev pub hintOn : ℕ → List ℕ → Left
+abbrev pub hintOn : ℕ → List ℕ → Outcome
 hintOn n ws = hintSet (hintGiven n) ws
 
-abbrev portSet : PortGiven → List ℕ → Left
+abbrev portSet : PortGiven → List ℕ → Outcome
 portSet (P.Is p) ws = setOn (Setting.midi1-port p) ws
 portSet (P.Refused r) ws = unchanged r ws
 
-abbrev pub portOn : ℕ → List ℕ → Left
+abbrev pub portOn : ℕ → List ℕ → Outcome
 portOn n ws = portSet (portGiven n) ws
 
-abbrev directionSet : DirectionGiven → List ℕ → Left
+abbrev directionSet : DirectionGiven → List ℕ → Outcome
 directionSet (D.Is d) ws = setOn (Setting.direction d) ws
 directionSet (D.Refused r) ws = unchanged r ws
 
-abbrev pub directionOn : ℕ → List ℕ → Left
+abbrev pub directionOn : ℕ → List ℕ → Outcome
 directionOn n ws = directionSet (directionGiven n) ws
 
 -- ---- on a record: numbers that are no record are handed back as they came
@@ -93,9 +93,9 @@ abbrev pub directionIn : ℕ → Numbers → RecordAnswer
 directionIn n c = directionEdit (directionGiven n) c
 
 -- ---- writing a record
-abbrev writeGiven : Given → List ℕ → Left
+abbrev writeGiven : Given → List ℕ → Outcome
 writeGiven (G.Message m) ws = writeOn m ws
 writeGiven (G.Refused r) ws = unchanged r ws
 
-abbrev pub writeIn : Numbers → List ℕ → Left
+abbrev pub writeIn : Numbers → List ℕ → Outcome
 writeIn c ws = writeGiven (givenOf c) ws

@@ -15,12 +15,12 @@ use Rattle.fields.specs.declared.PairName.the-variants as P
 use Rattle.fields.specs.declared.Home.{Home}
 use Rattle.fields.specs.Named.{flagNamed, numberNamed, pairNamed, flagHome, numberHome, pairHome, Stands}
 use Rattle.buffer.specs.Filling.{putSeptets, fillSeptets, areSeptets, putIns}
-use Rattle.standard.specs.Words.{Left, setOn}
+use Rattle.standard.specs.Words.{Outcome, setOn}
 use Rattle.settings.specs.Fixed.{slotOn, septetsOn}
 use Rattle.settings.proofs.Slots.{facts, set-slot, set-septets}
 
 -- a number put at a place
-abbrev pub putAt : Home → ℕ → List ℕ → Left
+abbrev pub putAt : Home → ℕ → List ℕ → Outcome
 putAt h v ws = slotOn (h .0) (h .1) (h .2) (h .3) v ws
 
 -- the septets of a pair, the low one first

@@ -22,7 +22,7 @@ use Rattle.records.specs.declared.answers.Answer.the-variants as A
 use Rattle.records.specs.Settings.{tooLarge}
 use Rattle.standard.specs.Heads.{packetsOf}
 use Rattle.standard.specs.Walk.{walkOf}
-use Rattle.standard.specs.Words.{left, unchanged, missing, answerTo, actIn, setOn}
+use Rattle.standard.specs.Words.{outcome, unchanged, missing, answerTo, actIn, setOn}
 use Rattle.buffer.specs.Filling.{putIn, fillSeptets, areSeptets, putIns}
 use Rattle.buffer.proofs.Puts.{inWord, ins-put}
 use Rattle.settings.specs.declared.target.Target.{Target}
@@ -43,7 +43,7 @@ module _ (status word at span v : ℕ) (ws : List ℕ) where
     unfolding slotOn
     slot-large h = settled-own _ ws e ∙ rw (le-ltb v (2 ^ span) (leb-true (2 ^ span) v h))
 
-    pub slot-done : leb (2 ^ span) v ≡ false → slotOn status word at span v ws ≡ left A.Done (putIn word at span v ws)
+    pub slot-done : leb (2 ^ span) v ≡ false → slotOn status word at span v ws ≡ outcome A.Done (putIn word at span v ws)
     unfolding slotOn
     slot-done h = settled-own _ ws e ∙ rw (lt-ltb v (2 ^ span) (leb-false (2 ^ span) v h))
 
@@ -57,7 +57,7 @@ module _ (status word octet : ℕ) (xs ws : List ℕ) where
     unfolding septetsOn
     septets-large h = settled-own _ ws e ∙ rw h
 
-    pub septets-set : areSeptets xs ≡ true → septetsOn status word octet xs ws ≡ left A.Done (fillSeptets word octet xs ws)
+    pub septets-set : areSeptets xs ≡ true → septetsOn status word octet xs ws ≡ outcome A.Done (fillSeptets word octet xs ws)
     unfolding septetsOn
     septets-set h = settled-own _ ws e ∙ rw h
 
@@ -114,7 +114,7 @@ module _ (k : Kind) (s : Setting) (t : List (Slot Part)) (f : facts k s ≡ plai
   unfolding actIn
   own-fixed n o =
       o .set ∙ split (fits t (parts (λ f. valueIn s)))
-      (λ e. rw (answer-is k s fixed t f ws n o, e, is-body k s fixed t f, are-slots k s fixed t f) (ap (left A.Done) (sym (ins-put t _ ws (is-narrow k s fixed t f) e))))
+      (λ e. rw (answer-is k s fixed t f ws n o, e, is-body k s fixed t f, are-slots k s fixed t f) (ap (outcome A.Done) (sym (ins-put t _ ws (is-narrow k s fixed t f) e))))
       (λ e. rw (answer-is k s fixed t f ws n o, e))
 
   set-fixed : (x : Target) → targetOf (layout k .status) (walkOf ws 0) ≡ x → setOn s ws ≡ settled x (λ n. fitted (fits t (parts (λ f. valueIn s))) (putIns t (parts (λ f. valueIn s)) ws) ws) ws

@@ -4,7 +4,7 @@ use mathlib.Core.List.{List}
 use lib.ListN.{length, getD, drop}
 use Rattle.laws.specs.Bits.{fieldOf}
 
--- bits 31..28, 27..26 and the ten bits under 0x03FF_0000
+-- bits 31..28, bits 27..26, and the ten bits of mask 0x03FF_0000
 abbrev pub typeOf : ℕ → ℕ
 typeOf w = fieldOf w 28 4
 
@@ -18,11 +18,11 @@ statusOf w = fieldOf w 16 10
 abbrev pub streamType : ℕ
 streamType = 0xF
 
--- the word with this status and format
+-- the head with this status and format
 abbrev pub headWord : ℕ → ℕ → ℕ
 headWord status format = streamType * 0x1000_0000 + format * 0x400_0000 + status * 0x1_0000
 
--- the whole packets of a slice, the words from packet p on, and its first word
+-- the number of whole packets, the words from packet p on, and the first word of packet p
 abbrev pub packetsOf : List ℕ → ℕ
 packetsOf ws = length ws / 4
 

@@ -1,4 +1,4 @@
--- THE TEXT PLACE over any slice: whole packets only; offset 1 where the first word's status is 0x12, else 0.
+-- THE TEXT PLACE in any slice: whole packets only; offset 1 if the status of the first word is 0x12, otherwise 0.
 use Prim.Native.Nat.{ℕ, _-_}
 use mathlib.Core.List.{List}
 use lib.ListN.{getD}
@@ -11,7 +11,7 @@ use Rattle.kinds.specs.declared.kind.Kind.the-variants as K
 use Rattle.kinds.specs.Layout.{layout}
 use Rattle.standard.specs.Heads.{statusOf}
 
--- the offset, by the ten status bits of the first word, whatever its type
+-- the offset, by the ten status bits of the first word; its type does not matter
 unfoldable pub offsetHere : List ℕ → ℕ
 offsetHere ws = pick (eqb (statusOf (getD ws 0 0)) (layout K.FunctionBlockName .status)) 1 0
 

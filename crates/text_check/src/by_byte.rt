@@ -1,4 +1,4 @@
-// The UTF-8 check over the text of packets, with zeros dropped as they come: the text is nowhere put together.
+// The plain check of text in packets, byte by byte. It also finds where the text is bad. Zero bytes are skipped, and the text is never copied.
 ghost use mathlib.Core.Path.{_≡_};
 ghost use Prim.Native.Nat.{_-_, _/_};
 ghost use lib.ListN.{length};
@@ -9,11 +9,11 @@ use counts::TextByteNumber;
 use text::TextPlace;
 use text::by_byte;
 use utf8::Utf8;
-use utf8::reading;
 use utf8::scan;
 use utf8::scan::Scan;
+use utf8::skipping_zeros;
 
-// Whether the text of the whole packets is UTF-8, and where its first bad character starts. It stops there.
+// Whether the text of the whole packets is UTF-8; if not, where its first bad character starts.
 pub(crate) fn check_text(words: &[u32], offset: usize) -> Utf8
     ensures { λ r. ⌜ r ≡ firstBad (textOf (now (words .entry)) (14 - offset) (length (now (words .entry)) / 4)) ⌝ }
 {
@@ -21,7 +21,7 @@ pub(crate) fn check_text(words: &[u32], offset: usize) -> Utf8
         return Utf8::Good;
     }
     let count = words.len() / 4;
-    let mut r = reading::unread();
+    let mut r = skipping_zeros::new_skipping_scan();
     let mut p = 0;
     let mut b = 0;
     while p < count {
@@ -29,7 +29,7 @@ pub(crate) fn check_text(words: &[u32], offset: usize) -> Utf8
             packet: PacketNumber(p),
             byte: TextByteNumber(b),
         };
-        r = reading::read_byte(r, by_byte::text_byte(words, offset, at));
+        r = skipping_zeros::read_byte(r, by_byte::text_byte(words, offset, at));
         let s = r.scan;
         if let Scan::Stopped(n) = s {
             return Utf8::BadAt(n);
@@ -41,5 +41,5 @@ pub(crate) fn check_text(words: &[u32], offset: usize) -> Utf8
         }
     }
     let s = r.scan;
-    scan::ended(s)
+    scan::verdict_at_end(s)
 }

@@ -1,23 +1,23 @@
-// A text as it is given, where a zero byte is a character: whole characters at once where a look tells them, and else a byte at a time.
+// The fast check of a text given as bytes, where a zero byte is a character. Whole characters are skipped several at a time; the table decides the rest.
 ghost use mathlib.Core.Path.{_≡_};
 ghost use Prim.Native.Nat.{_+_, _<_, _≤_};
 ghost use lib.ListN.{length, drop};
 ghost use Rattle.utf8.specs.Utf8.{firstBad};
-ghost use Rattle.text_check.specs.Fast.{isGood, wholeOf, twelveAt, Past, givenOf};
-use crate::table::BAD;
-use crate::table::step;
-use crate::threes::first_three;
-use crate::threes::from_none;
-use crate::threes::from_one;
-use crate::threes::from_two;
-use crate::threes::last_three;
-use crate::words::plain;
-use text::joined::joined;
+ghost use Rattle.text_check.specs.FastCheck.{isGood, wholeCharacters, runAt, Skipped, stepKeepingZeros};
+use crate::ascii::ascii_word;
+use crate::state_table::BAD;
+use crate::state_table::step;
+use crate::three_byte_runs::first_three;
+use crate::three_byte_runs::last_three;
+use crate::three_byte_runs::run_none_due;
+use crate::three_byte_runs::run_one_due;
+use crate::three_byte_runs::run_two_due;
+use text::big_endian::big_endian;
 
-// The state after b. A zero byte leads where byte 1 does, as any ASCII byte.
-fn given(s: u64, b: u8) -> u64
+// The state after byte b. A zero byte counts as any other ASCII byte, such as 1.
+fn step_keeping_zeros(s: u64, b: u8) -> u64
     requires { ⌜ s < 64 ⌝ }
-    ensures { λ r. ⌜ r ≡ givenOf s b ⌝ }
+    ensures { λ r. ⌜ r ≡ stepKeepingZeros s b ⌝ }
     ensures small { λ r. ⌜ r < 64 ⌝ }
 {
     if b == 0 {
@@ -26,11 +26,11 @@ fn given(s: u64, b: u8) -> u64
     step(s, b)
 }
 
-// Octets of w, from the first on, that are whole characters: four plain ones, or one character of three; 0 where a look does not tell.
-fn whole(w: u32) -> usize
-    ensures { λ r. ⌜ r ≡ wholeOf w ⌝ }
+// How many octets at the start of w are whole characters: 4 if all are ASCII, 3 if they are one three-byte character. Returns 0 if this test cannot decide.
+fn whole_characters(w: u32) -> usize
+    ensures { λ r. ⌜ r ≡ wholeCharacters w ⌝ }
 {
-    if plain(w) {
+    if ascii_word(w) {
         return 4;
     }
     if first_three(w) {
@@ -39,10 +39,10 @@ fn whole(w: u32) -> usize
     0
 }
 
-// A byte after whole characters, as far as a look at four bytes tells them.
-fn past_words(text: &[u8], from: usize) -> usize
+// Skips whole characters from `from` on, four bytes at a look. Returns where it stopped.
+fn skip_by_words(text: &[u8], from: usize) -> usize
     requires { ⌜ from ≤ length (now text) ⌝ }
-    ensures { λ r. ⌜ Past (now (text .entry)) from r ⌝ }
+    ensures { λ r. ⌜ Skipped (now (text .entry)) from r ⌝ }
 {
     if text.len() < 4 {
         return from;
@@ -50,7 +50,7 @@ fn past_words(text: &[u8], from: usize) -> usize
     let last = text.len() - 4;
     let mut i = from;
     while i <= last {
-        let k = whole(joined(text, i));
+        let k = whole_characters(big_endian(text, i));
         if k == 0 {
             return i;
         }
@@ -59,10 +59,10 @@ fn past_words(text: &[u8], from: usize) -> usize
     i
 }
 
-// The same, as far as bytes are plain by fours.
-fn past_plain(text: &[u8], from: usize) -> usize
+// Skips ASCII bytes from `from` on, four at a time. Returns where it stopped.
+fn skip_ascii(text: &[u8], from: usize) -> usize
     requires { ⌜ from ≤ length (now text) ⌝ }
-    ensures { λ r. ⌜ Past (now (text .entry)) from r ⌝ }
+    ensures { λ r. ⌜ Skipped (now (text .entry)) from r ⌝ }
 {
     if text.len() < 4 {
         return from;
@@ -70,7 +70,7 @@ fn past_plain(text: &[u8], from: usize) -> usize
     let last = text.len() - 4;
     let mut i = from;
     while i <= last {
-        if plain(joined(text, i)) {
+        if ascii_word(big_endian(text, i)) {
             i += 4;
         } else {
             return i;
@@ -79,18 +79,19 @@ fn past_plain(text: &[u8], from: usize) -> usize
     i
 }
 
-// Whether the twelve bytes from byte i on are four characters of three.
-fn twelve(text: &[u8], i: usize) -> bool
+// Whether the twelve bytes from byte i on are four simple three-byte characters.
+fn run_at(text: &[u8], i: usize) -> bool
     requires { ⌜ i + 12 ≤ length (now text) ⌝ }
-    ensures { λ r. ⌜ r ≡ twelveAt (now (text .entry)) i ⌝ }
+    ensures { λ r. ⌜ r ≡ runAt (now (text .entry)) i ⌝ }
 {
-    from_none(joined(text, i)) && (from_two(joined(text, i + 4)) && from_one(joined(text, i + 8)))
+    run_none_due(big_endian(text, i))
+        && (run_two_due(big_endian(text, i + 4)) && run_one_due(big_endian(text, i + 8)))
 }
 
-// The same, as far as twelve bytes are four characters of three.
-fn past_runs(text: &[u8], from: usize) -> usize
+// Skips runs of four simple three-byte characters. Returns where it stopped.
+fn skip_runs(text: &[u8], from: usize) -> usize
     requires { ⌜ from ≤ length (now text) ⌝ }
-    ensures { λ r. ⌜ Past (now (text .entry)) from r ⌝ }
+    ensures { λ r. ⌜ Skipped (now (text .entry)) from r ⌝ }
 {
     if text.len() < 12 {
         return from;
@@ -98,7 +99,7 @@ fn past_runs(text: &[u8], from: usize) -> usize
     let last = text.len() - 12;
     let mut i = from;
     while i <= last {
-        if twelve(text, i) {
+        if run_at(text, i) {
             i += 12;
         } else {
             return i;
@@ -107,10 +108,10 @@ fn past_runs(text: &[u8], from: usize) -> usize
     i
 }
 
-// The same at the end, where at most three bytes are left: plain ones, or one character.
-fn past_last(text: &[u8], from: usize) -> usize
+// Skips the last one to three bytes if they are ASCII or one three-byte character. Returns where it stopped.
+fn skip_last(text: &[u8], from: usize) -> usize
     requires { ⌜ from ≤ length (now text) ⌝ }
-    ensures { λ r. ⌜ Past (now (text .entry)) from r ⌝ }
+    ensures { λ r. ⌜ Skipped (now (text .entry)) from r ⌝ }
 {
     let n = text.len();
     if n <= from {
@@ -122,8 +123,8 @@ fn past_last(text: &[u8], from: usize) -> usize
     if 3 < n - from {
         return from;
     }
-    let w = joined(text, n - 4);
-    if plain(w) {
+    let w = big_endian(text, n - 4);
+    if ascii_word(w) {
         return n;
     }
     if n - from == 3 && last_three(w) {
@@ -132,41 +133,41 @@ fn past_last(text: &[u8], from: usize) -> usize
     from
 }
 
-// A byte after whole characters, one look after the other.
-fn past_whole(text: &[u8]) -> usize
-    ensures { λ r. ⌜ Past (now (text .entry)) 0 r ⌝ }
+// Skips whole characters from the start of the text. Returns where it stopped.
+fn skip_whole(text: &[u8]) -> usize
+    ensures { λ r. ⌜ Skipped (now (text .entry)) 0 r ⌝ }
 {
-    let i = past_runs(text, past_plain(text, 0));
-    past_last(text, past_words(text, i))
+    let i = skip_runs(text, skip_ascii(text, 0));
+    skip_last(text, skip_by_words(text, i))
 }
 
-// Whether the text is UTF-8 from byte `from` on, where no character is open: by the tables where a look does not tell.
-fn by_tables(text: &[u8], from: usize) -> bool
+// Whether the text from byte `from` on is UTF-8, by the state table. A character must start there.
+fn is_good_from(text: &[u8], from: usize) -> bool
     requires { ⌜ from ≤ length (now text) ⌝ }
     ensures { λ r. ⌜ r ≡ isGood (firstBad (drop from (now (text .entry)))) ⌝ }
 {
     let mut s: u64 = 0;
     let mut i = from;
     while i < text.len() {
-        s = given(s, text[i]);
+        s = step_keeping_zeros(s, text[i]);
         if s == BAD {
             return false;
         }
         i += 1;
         if s == 0 {
-            i = past_words(text, i);
+            i = skip_by_words(text, i);
         }
     }
     s == 0
 }
 
-// Whether a text as it is given is UTF-8.
-pub(crate) fn all_given(text: &[u8]) -> bool
+// Whether the text is UTF-8.
+pub(crate) fn is_good(text: &[u8]) -> bool
     ensures { λ r. ⌜ r ≡ isGood (firstBad (now (text .entry))) ⌝ }
 {
-    let i = past_whole(text);
+    let i = skip_whole(text);
     if i == text.len() {
         return true;
     }
-    by_tables(text, i)
+    is_good_from(text, i)
 }

@@ -5,14 +5,14 @@ ghost use Rattle.kinds.specs.Layout.{layout};
 ghost use Rattle.text.specs.Octets.{needed};
 ghost use Rattle.text_settings.specs.Texts.{LoneHead, roomOf, planOf, textOn};
 use crate::target::find_near_target;
-use counts::PacketNumber;
-use text_check::check_utf8;
 use buffer::texts::fill_text;
+use counts::PacketNumber;
 use kinds::kind::Kind;
 use kinds::refusal::Refusal;
 use records::answers::Answer;
 use settings::target::Target;
 use text::packets::packets_needed;
+use text_check::check_utf8;
 use utf8::Utf8;
 
 pub enum Plan {

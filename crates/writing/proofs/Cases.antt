@@ -18,7 +18,7 @@ use Rattle.records.specs.declared.device_identity.DeviceIdentity.{DeviceIdentit
 use Rattle.records.specs.declared.function_block_info.FunctionBlockInfo.{FunctionBlockInfo}
 use Rattle.records.specs.declared.answers.Answer.the-variants as A
 use Rattle.records.specs.Records.{kindIn, valuesOf}
-use Rattle.standard.specs.Words.{left, unchanged, hasText, encodeIn, encode, writeOn}
+use Rattle.standard.specs.Words.{outcome, unchanged, hasText, encodeIn, encode, writeOn}
 use Rattle.buffer.proofs.Puts.{inWord, ins-put}
 use Rattle.writing.specs.Put.{putRecord}
 
@@ -57,7 +57,7 @@ module _ {m : Message} (k : Fixed m) (ws : List ℕ) where
     unfolding writeOn
     write-short h = rw (k .body, f, eq-eqb (length ws / 4) 0 (omega arith))
 
-    pub write-done : 4 ≤ length ws → writeOn m ws ≡ left A.Done (putRecord m ws)
+    pub write-done : 4 ≤ length ws → writeOn m ws ≡ outcome A.Done (putRecord m ws)
     unfolding writeOn encode encodeIn putRecord
     write-done h =
-        rw (k .body, f, ne-eqb (length ws / 4) 0 (λ z. omega arith)) (ap (left A.Done) (sym (ins-put _ _ _ (k .narrow) f)))
+        rw (k .body, f, ne-eqb (length ws / 4) 0 (λ z. omega arith)) (ap (outcome A.Done) (sym (ins-put _ _ _ (k .narrow) f)))

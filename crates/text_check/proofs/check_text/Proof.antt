@@ -1,4 +1,4 @@
--- `check_text` meets its contract: where the fast pass says good the verdict is Good, and else the plain check gives it.
+-- `check_text` meets its contract: Good if the fast check accepts, otherwise the answer of the byte-by-byte check.
 use mathlib.Core.Path.{sym, _∙_}
 use borrow.Author.Needs.{needs}
 use Rattle.text_check.proofs.Due.{good-is}

@@ -1,4 +1,4 @@
--- `check_utf8` meets its contract: where the fast pass says good the verdict is Good, and else the plain check gives it.
+-- `check_utf8` meets its contract: Good if the fast check accepts, otherwise the answer of the byte-by-byte check.
 use mathlib.Core.Path.{sym, _∙_}
 use borrow.Author.Needs.{needs}
 use Rattle.text_check.proofs.Due.{good-is}
@@ -6,7 +6,7 @@ use Rattle.text_check.proofs.check_utf8.Statement.{statement}
 use Rattle.text_check.proofs.check_utf8.Tie as tie
 
 returns : tie.Need-returns
-returns c = good-is _ (sym (c .before .all-given .ensures) ∙ c .if1 .taken)
+returns c = good-is _ (sym (c .before .is-good .ensures) ∙ c .if1 .taken)
 
 pub check-utf8-spec : {M : Type 1} → statement M
 check-utf8-spec =

@@ -5,7 +5,7 @@ use Rattle.kinds.specs.declared.kind.Kind.the-variants as K
 use Rattle.buffer.specs.Filling.{putSeptets, fillSeptets, areSeptets, putIns}
 use Rattle.settings.proofs.Slots.{facts, set-septets}
 use borrow.Author.Needs.{needs}
-use Rattle.standard.proofs.Left.{said-as}
+use Rattle.standard.proofs.Outcome.{said-as}
 use Rattle.settings.proofs.device_identity.set_device_manufacturer.Statement.{statement}
 use Rattle.settings.proofs.device_identity.set_device_manufacturer.Tie as tie
 

@@ -2,7 +2,7 @@
 use Rattle.settings.proofs.Slots.{septets-refused, septets-large, septets-set}
 use mathlib.Core.Path.{sym, _∙_}
 use borrow.Author.Needs.{needs}
-use Rattle.standard.proofs.Left.{said}
+use Rattle.standard.proofs.Outcome.{said}
 use Rattle.settings.proofs.fixed.set_septets.Statement.{statement}
 use Rattle.settings.proofs.fixed.set_septets.Tie as tie
 

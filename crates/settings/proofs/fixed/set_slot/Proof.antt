@@ -2,7 +2,7 @@
 use Rattle.settings.proofs.Slots.{slot-refused, slot-large, slot-done}
 use mathlib.Core.Path.{sym, _∙_}
 use borrow.Author.Needs.{needs}
-use Rattle.standard.proofs.Left.{said}
+use Rattle.standard.proofs.Outcome.{said}
 use Rattle.settings.proofs.fixed.set_slot.Statement.{statement}
 use Rattle.settings.proofs.fixed.set_slot.Tie as tie
 

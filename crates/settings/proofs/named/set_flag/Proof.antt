@@ -1,6 +1,6 @@
 -- `named::set_flag` meets its contract, by the laws of `Places`.
 use Rattle.bit_ops.proofs.Parts.{bit-byte}
-use Rattle.standard.proofs.Left.{said-as}
+use Rattle.standard.proofs.Outcome.{said-as}
 use Rattle.settings.proofs.Places.{flag-put}
 use borrow.Author.Needs.{needs}
 use Rattle.settings.proofs.named.set_flag.Statement.{statement}

@@ -4,7 +4,7 @@ use borrow.Author.Tests.{not-true, not-false}
 use Rattle.kinds.specs.Layout.{layout}
 use Rattle.writing.proofs.Cases.{identity-fixed, write-large, write-short, write-done}
 use borrow.Author.Needs.{needs}
-use Rattle.standard.proofs.Left.{said}
+use Rattle.standard.proofs.Outcome.{said}
 use Rattle.writing.proofs.device_identity.write.Statement.{statement}
 use Rattle.writing.proofs.device_identity.write.Tie as tie
 

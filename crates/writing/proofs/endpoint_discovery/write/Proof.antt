@@ -4,7 +4,7 @@ use Rattle.kinds.specs.Layout.{layout}
 use Rattle.writing.proofs.Cases.{discovery-fixed, write-short, write-done}
 use Rattle.records.proofs.Fitting.{discovery-fits}
 use borrow.Author.Needs.{needs}
-use Rattle.standard.proofs.Left.{said}
+use Rattle.standard.proofs.Outcome.{said}
 use Rattle.writing.proofs.endpoint_discovery.write.Statement.{statement}
 use Rattle.writing.proofs.endpoint_discovery.write.Tie as tie
 

@@ -4,7 +4,7 @@ use Rattle.kinds.specs.Layout.{layout}
 use Rattle.writing.proofs.Cases.{info-fixed, write-large, write-short, write-done}
 use Rattle.records.proofs.Fitting.{info-small, info-large}
 use borrow.Author.Needs.{needs}
-use Rattle.standard.proofs.Left.{said}
+use Rattle.standard.proofs.Outcome.{said}
 use Rattle.writing.proofs.endpoint_info.write.Statement.{statement}
 use Rattle.writing.proofs.endpoint_info.write.Tie as tie
 

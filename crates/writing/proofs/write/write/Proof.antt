@@ -3,7 +3,7 @@ use mathlib.Core.Path.{refl}
 use Rattle.kinds.specs.Layout.{layout}
 use Rattle.writing.proofs.Cases.{write-text}
 use borrow.Author.Needs.{needs}
-use Rattle.standard.proofs.Left.{said}
+use Rattle.standard.proofs.Outcome.{said}
 use Rattle.writing.proofs.write.write.Statement.{statement}
 use Rattle.writing.proofs.write.write.Tie as tie
 
