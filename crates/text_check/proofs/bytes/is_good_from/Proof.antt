@@ -34,7 +34,7 @@ byte : (c : tie.After-step-keeping-zeros Inv-loop μ-loop) →
 byte c =
     let l = c .before .before .before in
     rw (c .step-keeping-zeros .ensures .0)
-    (bytes-turn _ _ (λ k. c .before .shared-slice-known2 .step-keeping-zeros k .fits) _ _ (c .before .before .loop-test .taken) (l .loop .inv .1))
+    (bytes-turn _ _ (λ k. c .before .shared-slice-known2 .given k .fits) _ _ (c .before .before .loop-test .taken) (l .loop .inv .1))
 
 returns : tie.Need-returns Inv-loop μ-loop
 returns c = answer-bad _ _ _ (c .if1 .taken) (byte (c .before))
