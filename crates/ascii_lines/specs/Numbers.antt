@@ -23,10 +23,11 @@ decimal n = decimalIn n n
 abbrev pub hexByte : ℕ → List ℕ
 hexByte b = digit (b / 16) ∷ digit (b % 16) ∷ []
 
--- a number in decimal after a space; and a list of them
+-- a number in decimal after a space
 abbrev pub number : ℕ → List ℕ
 number n = ascii " " ++ decimal n
 
+-- several numbers, each after a space
 abbrev pub numbers : List ℕ → List ℕ
 numbers ns = each number ns
 

@@ -1,4 +1,4 @@
--- A page: a buffer, and the place in it where the next byte goes.
+-- Writing into a page.
 use Prim.Native.Nat.{ℕ, _+_}
 use mathlib.Core.Path.{_≡_}
 use mathlib.Core.List.{List, [], _∷_}
@@ -6,6 +6,7 @@ use lib.ListN.{length, set}
 use lib.Dec.{ltb}
 use Rattle.laws.specs.Pick.{pick}
 
+-- a buffer, and the place in it where the next byte goes
 pub record Page : Type 0 where
   pub at : ℕ
   pub out : List ℕ

@@ -1,5 +1,4 @@
-// Writing ASCII into a lent buffer: bytes, names, and numbers in decimal and hex.
-// Each function returns the place after what it wrote. What does not fit is dropped, and the place stays at the end.
+// Writing ASCII into a lent buffer. Each function returns the place after what it wrote; what does not fit is dropped, and the place stays at the end.
 ghost use mathlib.Core.Path.{_≡_};
 ghost use mathlib.Core.List.{[], _∷_, _++_};
 ghost use Prim.Native.Nat.{_<_};
@@ -7,6 +6,7 @@ ghost use lib.ListN.{length};
 ghost use Rattle.ascii_lines.specs.Page.{Wrote};
 ghost use Rattle.ascii_lines.specs.Numbers.{decimal, digit, hexByte, number, numbers};
 
+// Writes one byte.
 pub fn put_byte(out: &mut [u8], at: usize, byte: u8) -> usize
     ensures { λ r. ⌜ Wrote at (now (out .entry)) (byte ∷ []) r (now (out .exit)) ⌝ }
 {
@@ -17,6 +17,7 @@ pub fn put_byte(out: &mut [u8], at: usize, byte: u8) -> usize
     at
 }
 
+// Writes the bytes of a text.
 pub fn put_text(out: &mut [u8], at: usize, text: &[u8]) -> usize
     ensures { λ r. ⌜ Wrote at (now (out .entry)) (now (text .entry)) r (now (out .exit)) ⌝ }
 {

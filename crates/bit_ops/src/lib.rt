@@ -1,5 +1,4 @@
-// The parts of a 32-bit word, numbered from the highest: bits, crumbs (2 bits), nibbles, septets (7 bits of an octet), octets and 16-bit words.
-// An index out of range reads 0 and writes nothing. A value too large for its part is not written either.
+// The parts of a 32-bit word, numbered from the highest. An index out of range reads 0 and writes nothing; a value too large for its part is not written.
 
 ghost use mathlib.Core.Path.{_≡_};
 ghost use Prim.Native.Nat.{_+_, _^_, _<_, _≤_};

@@ -45,8 +45,8 @@ module _ {at span low top : ℕ} (p : Powers at span low top) where
     pub put-is : w / top * top + v * low + w % low ≡ putField w at span v
     put-is = rw (p .lowest, p .above)
 
-    pub put-word : w < 2 ^ 32 → v < 2 ^ span → w / top * top + v * low + w % low < 2 ^ 32
-    put-word hw hv = rw put-is (put-lt w at span v hw (p .within) hv)
+    pub put-in-word : w < 2 ^ 32 → v < 2 ^ span → w / top * top + v * low + w % low < 2 ^ 32
+    put-in-word hw hv = rw put-is (put-lt w at span v hw (p .within) hv)
 
 -- a put into one word of a buffer is a put into the slot
 pub in-put : {K : Type 0} (s : Slot K) (v : ℕ) (ws : List ℕ) → s .at + s .span ≤ 32 → v < 2 ^ s .span → putIn (s .word) (s .at) (s .span) v ws ≡ put s v ws

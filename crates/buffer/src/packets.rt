@@ -17,6 +17,7 @@ pub(crate) fn clear_from(words: &mut [u32], from: usize)
     }
 }
 
+// Clears every whole packet, and puts the head into the first.
 pub fn clear(words: &mut [u32], head: u32)
     ensures { λ _. ⌜ now (words .exit) ≡ blank head (now (words .entry)) ⌝ }
 {

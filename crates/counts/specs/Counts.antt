@@ -4,6 +4,7 @@ use Rattle.counts.specs.declared.PacketNumber.{PacketNumber}
 use Rattle.counts.specs.declared.WordNumber.{WordNumber}
 use Rattle.counts.specs.declared.TextByteNumber.{TextByteNumber}
 
+-- a number as a count of each kind
 abbrev pub packet : ℕ → PacketNumber
 packet n = record { 0 = n }
 

@@ -9,6 +9,7 @@ unfoldable pub firstFrom : (ℕ → Bool) → ℕ → ℕ → ℕ
 firstFrom t zero i = i
 firstFrom t (suc n) i = pick (t i) i (firstFrom t n (suc i))
 
+-- the first of the numbers below n
 unfoldable pub first : (ℕ → Bool) → ℕ → ℕ
 first t n = firstFrom t n 0
 

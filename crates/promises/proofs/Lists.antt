@@ -12,7 +12,7 @@ use Rattle.kinds.specs.Layout.{layout}
 use Rattle.records.specs.declared.answers.Answer.{Answer}
 use Rattle.standard.specs.Heads.{packetsOf}
 use Rattle.standard.specs.Words.{Outcome, outcome, setOn, answerTo, encode}
-use Rattle.standard.specs.Lists.{setAll, Answered, answered, answerAll, isDone, lastAccepted, onlyField}
+use Rattle.standard.specs.Lists.{setAll, Answered, withAnswer, answerAll, isDone, lastAccepted, onlyField}
 use Rattle.promises.specs.Values.{changed, fieldAnswered}
 
 -- ---- a field's last value depends on its own settings only
@@ -30,13 +30,13 @@ module _ (k : Kind) (room : ℕ) (f : Field) where
   last-mixed v ss ts e = sym (last-only v ss) ∙ ap (lastAccepted k room f v) e ∙ last-only v ts
 
 -- ---- a field's answers depend on its own settings only
-pub only-answered : (h : Setting → Answer) (f : Field) (ss : List Setting) → onlyField fieldAnswered f (map (λ s. answered s (h s)) ss) ≡ map (λ s. answered s (h s)) (onlyField fieldIn f ss)
+pub only-answered : (h : Setting → Answer) (f : Field) (ss : List Setting) → onlyField fieldAnswered f (map (λ s. withAnswer s (h s)) ss) ≡ map (λ s. withAnswer s (h s)) (onlyField fieldIn f ss)
 unfolding onlyField map
 only-answered h f [] = refl
 only-answered h f (s ∷ ss) = go (same f (fieldIn s)) (only-answered h f ss)
   where
-    go : (b : Bool) → onlyField fieldAnswered f (map (λ s. answered s (h s)) ss) ≡ map (λ s. answered s (h s)) (onlyField fieldIn f ss) → pick b (answered s (h s) ∷ onlyField fieldAnswered f (map (λ s. answered s (h s)) ss)) (onlyField fieldAnswered f (map (λ s. answered s (h s)) ss)) ≡ map (λ s. answered s (h s)) (pick b (s ∷ onlyField fieldIn f ss) (onlyField fieldIn f ss))
-    go true e = ap (λ (l : List Answered). answered s (h s) ∷ l) e
+    go : (b : Bool) → onlyField fieldAnswered f (map (λ s. withAnswer s (h s)) ss) ≡ map (λ s. withAnswer s (h s)) (onlyField fieldIn f ss) → pick b (withAnswer s (h s) ∷ onlyField fieldAnswered f (map (λ s. withAnswer s (h s)) ss)) (onlyField fieldAnswered f (map (λ s. withAnswer s (h s)) ss)) ≡ map (λ s. withAnswer s (h s)) (pick b (s ∷ onlyField fieldIn f ss) (onlyField fieldIn f ss))
+    go true e = ap (λ (l : List Answered). withAnswer s (h s) ∷ l) e
     go false e = e
 
 -- ---- given the law of one setting
@@ -48,12 +48,12 @@ module _ (k : Kind) (ws : List ℕ) (Good : (Field → List ℕ) → Type 0)
   all-set [] v g = refl
   all-set (s ∷ ss) v g = ap (λ (r : Outcome). setAll ss (r .words)) (law v g s) ∙ all-set ss (changed k (packetsOf ws) s v) (keep v g s)
 
-  pub all-answered : (ss : List Setting) (v : Field → List ℕ) → Good v → answerAll ss (encode k ws v) ≡ map (λ s. answered s (answerTo (layout k) (packetsOf ws) s)) ss
+  pub all-answered : (ss : List Setting) (v : Field → List ℕ) → Good v → answerAll ss (encode k ws v) ≡ map (λ s. withAnswer s (answerTo (layout k) (packetsOf ws) s)) ss
   unfolding answerAll map
   all-answered [] v g = refl
   all-answered (s ∷ ss) v g =
-      ap (λ (r : Outcome). answered s (r .answer) ∷ answerAll ss (r .words)) (law v g s)
-      ∙ ap (λ (l : List Answered). answered s (answerTo (layout k) (packetsOf ws) s) ∷ l) (all-answered ss (changed k (packetsOf ws) s v) (keep v g s))
+      ap (λ (r : Outcome). withAnswer s (r .answer) ∷ answerAll ss (r .words)) (law v g s)
+      ∙ ap (λ (l : List Answered). withAnswer s (answerTo (layout k) (packetsOf ws) s) ∷ l) (all-answered ss (changed k (packetsOf ws) s v) (keep v g s))
 
   -- the last accepted values are good
   pub all-good : (ss : List Setting) (v : Field → List ℕ) → Good v → Good (λ f. lastAccepted k (packetsOf ws) f (v f) ss)

@@ -14,7 +14,7 @@ use Rattle.standard.specs.Heads.{packetsOf}
 use Rattle.standard.specs.Reading.{readOf, textAt}
 use Rattle.standard.specs.Walk.{walkOf}
 use Rattle.standard.specs.Words.{fresh, encode, answerTo}
-use Rattle.standard.specs.Lists.{setAll, answered, answerAll, lastAccepted, onlyField}
+use Rattle.standard.specs.Lists.{setAll, withAnswer, answerAll, lastAccepted, onlyField}
 use Rattle.promises.specs.Good.{GoodValues}
 use Rattle.promises.specs.Values.{packetsNeeded, recordFor, textGiven, lastValues, fieldAnswered}
 use Rattle.promises.proofs.Encode.{fresh-encode, encode-read, encode-text, encode-walk, set-law, good-kept, start-good}
@@ -26,14 +26,14 @@ module _ (k : Kind) (ws : List ℕ) (l : 4 ≤ length ws) where
   settings-leave ss = rw (fresh-encode k ws l) (all-set k ws (GoodValues k (packetsOf ws)) (set-law k ws l) (good-kept k ws l) ss start (start-good k ws l))
 
   -- EACH ANSWER depends only on the kind, the number of whole packets and the setting
-  pub settings-answer : (ss : List Setting) → answerAll ss (fresh k ws) ≡ map (λ s. answered s (answerTo (layout k) (packetsOf ws) s)) ss
+  pub settings-answer : (ss : List Setting) → answerAll ss (fresh k ws) ≡ map (λ s. withAnswer s (answerTo (layout k) (packetsOf ws) s)) ss
   settings-answer ss = rw (fresh-encode k ws l) (all-answered k ws (GoodValues k (packetsOf ws)) (set-law k ws l) (good-kept k ws l) ss start (start-good k ws l))
 
   -- REORDERED: two lists with the same settings in the same order within each field give equal words, and the same answer to each setting
   pub settings-mixed : (ss ts : List Setting) → ((f : Field) → onlyField fieldIn f ss ≡ onlyField fieldIn f ts) → (setAll ss (fresh k ws) ≡ setAll ts (fresh k ws)) × ((f : Field) → onlyField fieldAnswered f (answerAll ss (fresh k ws)) ≡ onlyField fieldAnswered f (answerAll ts (fresh k ws)))
   settings-mixed ss ts e = (
     settings-leave ss ∙ ap (encode k ws) (fun-ext (λ f. last-mixed k (packetsOf ws) f (start f) ss ts (e f))) ∙ sym (settings-leave ts),
-    λ f. rw (settings-answer ss, settings-answer ts) (only-answered (answerTo (layout k) (packetsOf ws)) f ss ∙ ap (map (λ s. answered s (answerTo (layout k) (packetsOf ws) s))) (e f) ∙ sym (only-answered (answerTo (layout k) (packetsOf ws)) f ts)),
+    λ f. rw (settings-answer ss, settings-answer ts) (only-answered (answerTo (layout k) (packetsOf ws)) f ss ∙ ap (map (λ s. withAnswer s (answerTo (layout k) (packetsOf ws) s))) (e f) ∙ sym (only-answered (answerTo (layout k) (packetsOf ws)) f ts)),
   )
 
   -- ---- THE RESULT IS A MESSAGE of these values

@@ -22,6 +22,7 @@ textFor (texts t from) v = v (Field.text t)
 abbrev pub packetsFor : Body → (Field → List ℕ) → ℕ
 packetsFor b v = needed (capacityIn b) (length (textFor b v))
 
+-- values are good for a body and a table, in at most `room` packets
 pub record GoodValuesIn (b : Body) (t : List (Slot Part)) (room : ℕ) (v : Field → List ℕ) : Type 0 where
   pub numbers : fits t (parts v) ≡ true
   pub valid : Valid (textFor b v)

@@ -12,16 +12,19 @@ use Rattle.standard.specs.Words.{answerTo, encode}
 use Rattle.standard.specs.Lists.{Answered, isDone, lastAccepted}
 use Rattle.promises.specs.Good.{textFor, packetsFor}
 
--- the message's packets, its record, its text as given, and its words in a buffer
+-- the number of its packets
 abbrev pub packetsNeeded : Kind → (Field → List ℕ) → ℕ
 packetsNeeded k v = packetsFor (layout k .body) v
 
+-- its record
 abbrev pub recordFor : Kind → (Field → List ℕ) → Message
 recordFor k v = recordOf k (packetsNeeded k v) v
 
+-- its text as given
 abbrev pub textGiven : Kind → (Field → List ℕ) → List ℕ
 textGiven k v = textFor (layout k .body) v
 
+-- its words in a buffer
 abbrev pub wordsFor : Kind → List ℕ → (Field → List ℕ) → List ℕ
 wordsFor k ws v = take (packetsNeeded k v * 4) (encode k ws v)
 

@@ -1,4 +1,4 @@
--- A slot is a field of some words: word, lowest bit, width, and a key that says whose number it holds. A table is a list of slots.
+-- Fields of words, and tables of them.
 use Prim.Native.Nat.{ℕ, _+_, _-_, _*_, _^_}
 use mathlib.Core.Path.{_≡_}
 use mathlib.Core.Bool.{Bool, true}
@@ -8,16 +8,18 @@ use lib.Dec.{ltb, leb, eqb}
 use Rattle.laws.specs.Pick.{pick, both}
 use Rattle.laws.specs.Bits.{fieldOf, putField}
 
+-- a field of some words: its word, lowest bit and width, and a key that says whose number it holds; a table is a list of slots
 pub record Slot (K : Type 0) : Type 0 where
   pub word : ℕ
   pub at : ℕ
   pub span : ℕ
   pub key : K
 
--- the number in a slot, and the words with another number there
+-- the number in a slot
 unfoldable pub get : {K : Type 0} → Slot K → List ℕ → ℕ
 get s ws = fieldOf (getD ws (s .word) 0) (s .at) (s .span)
 
+-- the words with number v in a slot
 unfoldable pub put : {K : Type 0} → Slot K → ℕ → List ℕ → List ℕ
 put s v ws = set ws (s .word) (putField (getD ws (s .word) 0) (s .at) (s .span) v)
 

@@ -16,10 +16,11 @@ use Rattle.standard.specs.Lists.{setAll}
 abbrev packets : ℕ → List ℕ → List ℕ
 packets n ws = ws ++ replicate (n * 4 - length ws) 0
 
--- n letters `a`; and three words full of them
+-- n letters `a`
 abbrev letters : ℕ → List ℕ
 letters n = replicate n 0x61
 
+-- three words full of them
 abbrev full : List ℕ
 full = 0x61616161 ∷ 0x61616161 ∷ 0x61616161 ∷ []
 
@@ -33,6 +34,7 @@ pub record Is (k : Kind) (n : ℕ) (ss : List Setting) (ws numbers text : List �
   pub reads : saidRead (readOf ws) ≡ accepted numbers
   pub says : textAt k ws ≡ text
 
+-- set an endpoint name; set a block number and a block name
 abbrev named : List ℕ → List Setting
 named t = Setting.text Text.endpoint-name t ∷ []
 

@@ -20,14 +20,15 @@ pub record Answered : Type 0 where
   pub setting : Setting
   pub answer : Answer
 
-abbrev pub answered : Setting → Answer → Answered
-answered s a = record { setting = s; answer = a }
+abbrev pub withAnswer : Setting → Answer → Answered
+withAnswer s a = record { setting = s; answer = a }
 
 -- each setting of a list with its answer
 unfoldable pub answerAll : List Setting → List ℕ → List Answered
 answerAll [] ws = []
-answerAll (s ∷ ss) ws = answered s (setOn s ws .answer) ∷ answerAll ss (setOn s ws .words)
+answerAll (s ∷ ss) ws = withAnswer s (setOn s ws .answer) ∷ answerAll ss (setOn s ws .words)
 
+-- the setting was accepted
 abbrev pub isDone : Answer → Bool
 isDone A.Done = true
 isDone (A.Refused r) = false

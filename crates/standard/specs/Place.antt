@@ -15,5 +15,6 @@ use Rattle.standard.specs.Heads.{statusOf}
 unfoldable pub offsetHere : List ℕ → ℕ
 offsetHere ws = pick (eqb (statusOf (getD ws 0 0)) (layout K.FunctionBlockName .status)) 1 0
 
+-- the next nonzero text byte from a place on, and the place after it
 abbrev pub nextByte : List ℕ → TextPlace → Stepped
 nextByte ws at = stepAt ws (14 - offsetHere ws) at

@@ -32,7 +32,7 @@ use Rattle.standard.specs.Heads.{typeOf, formatOf, statusOf, streamType,
 unfoldable pub ruled : (ℕ → Bool) → ℕ → (PacketNumber → Refusal) → Read → Read
 ruled broken n why rest = pick (ltb (first broken n) n) (R.Refused (why (packet (first broken n)))) rest
 
--- ---- the rules that a packet p can break
+-- ---- the rules that a packet p can break: another type, another status than packet 0, not the format due
 abbrev pub otherType : List ℕ → ℕ → Bool
 otherType ws p = differ (typeOf (headAt ws p)) streamType
 
@@ -59,9 +59,11 @@ codeAt k ws f = getD (valuesAt k ws f) 0 0
 abbrev pub textAt : Kind → List ℕ → List ℕ
 textAt k ws = textOf ws (capacityOf k) (packetsOf ws)
 
+-- the record
 abbrev pub messageAt : Kind → List ℕ → Message
 messageAt k ws = recordOf k (packetsOf ws) (valuesAt k ws)
 
+-- the text is not UTF-8
 abbrev pub isBad : Utf8 → Bool
 isBad Good = false
 isBad (BadAt n) = true

@@ -48,6 +48,7 @@ unfoldable pub frameFrom : ℕ → List ℕ → ℕ → ℕ → ℕ → Framed
 frameFrom zero ws status p at = Broken TooManyPackets
 frameFrom (suc left) ws status p at = framePacket ws status p at (frameFrom left ws status (suc p) (at + 4))
 
+-- the message at a position
 unfoldable pub frameOf : List ℕ → ℕ → Framed
 frameOf ws pos = frameFrom 64 ws (statusOf (getD ws pos 0)) 0 pos
 

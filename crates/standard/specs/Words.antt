@@ -54,6 +54,7 @@ abbrev freshKnown : Known → List ℕ → Outcome
 freshKnown Unknown ws = unchanged UnknownStatus ws
 freshKnown (Is k) ws = pick (noPacket ws) (unchanged NoRoom ws) (outcome A.Done (fresh k ws))
 
+-- A FRESH MESSAGE of a status
 unfoldable pub freshOn : ℕ → List ℕ → Outcome
 freshOn status ws = freshKnown (kindOf status) ws
 
@@ -70,10 +71,12 @@ headOf r v format = putWord (r .fields) (parts v) (headWord (r .status) format)
 abbrev pub textWritten : Row → ℕ → (Field → List ℕ) → List ℕ → List ℕ → List ℕ
 textWritten r cap v text ws = written ws text (headOf r v) cap (needed cap (length text))
 
+-- the buffer for given values: of a fixed kind, or of a text kind
 unfoldable pub encodeIn : Body → Row → List ℕ → (Field → List ℕ) → List ℕ
 encodeIn fixed r ws v = putAll (r .fields) (parts v) (blank (headWord (r .status) 0) ws)
 encodeIn (texts t from) r ws v = textWritten r (capacityIn (texts t from)) v (v (Field.text t)) ws
 
+-- the same for a kind
 unfoldable pub encode : Kind → List ℕ → (Field → List ℕ) → List ℕ
 encode k ws v = encodeIn (layout k .body) (layout k) ws v
 
@@ -107,10 +110,12 @@ actIn (texts t from) r n s ws =
     pick (isText (fieldIn s) (texts t from)) (textWritten r (capacityIn (texts t from)) (valuesIn (r .fields) ws) (textIn s) ws)
     (eachFirst n (putWord (slotsOf (fieldIn s) (r .fields)) (parts (λ f. valueIn s))) ws)
 
+-- the words after a setting with this answer
 abbrev pub afterAnswer : Answer → Row → ℕ → Setting → List ℕ → List ℕ
 afterAnswer A.Done r n s ws = actIn (r .body) r n s ws
 afterAnswer (A.Refused why) r n s ws = ws
 
+-- a setting on the message m at position 0
 unfoldable pub setMessage : Message → Setting → List ℕ → Outcome
 setMessage m s ws =
     outcome (answerTo (layout (kindIn m)) (packetsOf ws) s)

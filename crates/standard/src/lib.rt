@@ -1,5 +1,4 @@
-// What the library must do, by M2-104-UM and document 01: reading, the walk, packets, the text place, fresh messages, settings, writing.
-// Definitions and their laws. The code that meets them is in later crates, and shares these two types.
+// What the library must do, by M2-104-UM and document 01: definitions and their laws. The code that meets them is in later crates, and shares these two types.
 use counts::PacketNumber;
 use kinds::refusal::Refusal;
 

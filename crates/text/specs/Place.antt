@@ -24,6 +24,7 @@ unfoldable pub byteAt : List ℕ → ℕ → TextPlace → ℕ
 byteAt ws cap at =
     pick (leb (length ws / 4) (at .packet .0)) 0 (pick (leb cap (at .byte .0)) 0 (textByte ws cap (at .packet .0) (at .byte .0)))
 
+-- a step and the place after it
 abbrev pub stepped : TextStep → TextPlace → Stepped
 stepped s at = record { step = s; place = at }
 

@@ -6,6 +6,7 @@ ghost use Rattle.laws.specs.Bits.{wordOf};
 ghost use Rattle.text.specs.Octets.{octetOf};
 ghost use Rattle.text.specs.BigEndian.{bigEndianAt};
 
+// A byte as a 32-bit number.
 fn wide(b: u8) -> u32
     ensures { λ r. ⌜ r ≡ b ⌝ }
     ensures small { λ r. ⌜ r < 256 ⌝ }

@@ -90,10 +90,10 @@ module _ (text : List ℕ) (v : Bool) where
 
 -- ---- `Skipped`: bytes that are whole characters
 pub skip-none : (text : List ℕ) (i : ℕ) → i ≤ length text → Skipped text i i
-skip-none text i h = record { forward = omega arith; in-text = h; same-verdict = refl }
+skip-none text i h = record { forward = omega arith; in-bounds = h; same-verdict = refl }
 
 pub skip-more : {text : List ℕ} {i j k : ℕ} → Skipped text i j → Skipped text j k → Skipped text i k
-skip-more p q = record { forward = omega (arith, p .forward, q .forward); in-text = q .in-text; same-verdict = q .same-verdict ∙ p .same-verdict }
+skip-more p q = record { forward = omega (arith, p .forward, q .forward); in-bounds = q .in-bounds; same-verdict = q .same-verdict ∙ p .same-verdict }
 
 -- skipping keeps the check in state 0 with the same answer
 pub skip-at : (text : List ℕ) (v : Bool) (i j : ℕ) → Skipped text i j → AtByte text v 0 i → AtByte text v 0 j
@@ -104,7 +104,7 @@ module _ (text : List ℕ) (small : (k : ℕ) → getD text k 0 < 256) where
   start i = open-none text _ i refl
 
   skipped-to : (i j : ℕ) → i ≤ j → j ≤ length text → AtByte text (isGood (firstBad (drop i text))) 0 j → Skipped text i j
-  skipped-to i j o h st = record { forward = o; in-text = h; same-verdict = none-open text _ j st }
+  skipped-to i j o h st = record { forward = o; in-bounds = h; same-verdict = none-open text _ j st }
 
   module _ (i : ℕ) (h : i + 4 ≤ length text) where
     -- four ASCII bytes, or one simple three-byte character

@@ -20,7 +20,7 @@ isGood (BadAt n) = false
 
 -- ---- the state table
 
--- the class of each byte: one hex digit for each, sixteen in a number; the classes of F0..FF are in `classesOf`
+-- the class of each byte below F0: one hex digit for each, sixteen in a number
 abbrev pub classList : List ℕ
 classList =
     0x1111111111111110
@@ -40,10 +40,11 @@ classList =
     ∷ 0x8898888888888887
     ∷ []
 
+-- the classes of the 16 bytes with high digit h; the last number is that of F0..FF
 abbrev pub classesOf : ℕ → ℕ
 classesOf h = getD classList h 0x55555555555cbbba
 
--- the next state from each state, by the byte's class: six bits for each state; no byte has one of the last three classes
+-- the next state from each state, by the byte's class: six bits for each state; classes 13 to 15 are unused
 abbrev pub moveList : List ℕ
 moveList =
     0x30aa479848c180
@@ -63,6 +64,7 @@ moveList =
     ∷ 0x30c30c30c30c30
     ∷ []
 
+-- the next states for class k
 abbrev pub movesOf : ℕ → ℕ
 movesOf k = getD moveList k 0x30c30c30c30c30
 
@@ -183,5 +185,5 @@ wholeCharacters w = pick (asciiWord w) 4 (pick (firstThree w) 3 0)
 -- the bytes i to j of a text are whole characters, so they may be skipped: the rest is good exactly if the text from i is
 pub record Skipped (text : List ℕ) (i j : ℕ) : Type 0 where
   pub forward : i ≤ j
-  pub in-text : j ≤ length text
+  pub in-bounds : j ≤ length text
   pub same-verdict : isGood (firstBad (drop j text)) ≡ isGood (firstBad (drop i text))

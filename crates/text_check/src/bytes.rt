@@ -6,7 +6,7 @@ ghost use Rattle.utf8.specs.Utf8.{firstBad};
 ghost use Rattle.text_check.specs.FastCheck.{isGood, wholeCharacters, runAt, Skipped, stepKeepingZeros};
 use crate::ascii::ascii_word;
 use crate::state_table::BAD;
-use crate::state_table::step;
+use crate::state_table::table_step;
 use crate::three_byte_runs::first_three;
 use crate::three_byte_runs::last_three;
 use crate::three_byte_runs::run_none_due;
@@ -21,9 +21,9 @@ fn step_keeping_zeros(s: u64, b: u8) -> u64
     ensures small { λ r. ⌜ r < 64 ⌝ }
 {
     if b == 0 {
-        return step(s, 1);
+        return table_step(s, 1);
     }
-    step(s, b)
+    table_step(s, b)
 }
 
 // How many octets at the start of w are whole characters: 4 if all are ASCII, 3 if they are one three-byte character. Returns 0 if this test cannot decide.
@@ -39,7 +39,7 @@ fn whole_characters(w: u32) -> usize
     0
 }
 
-// Skips whole characters from `from` on, four bytes at a look. Returns where it stopped.
+// Skips whole characters from `from` on, by looking at four bytes at a time. Returns where it stopped.
 fn skip_by_words(text: &[u8], from: usize) -> usize
     requires { ⌜ from ≤ length (now text) ⌝ }
     ensures { λ r. ⌜ Skipped (now (text .entry)) from r ⌝ }

@@ -70,7 +70,7 @@ fn row(b: u8) -> u64
 }
 
 // The state after byte b. The next step shifts by the result, so `small` bounds it.
-pub(crate) fn step(s: u64, b: u8) -> u64
+pub(crate) fn table_step(s: u64, b: u8) -> u64
     requires { ⌜ s < 64 ⌝ }
     ensures { λ r. ⌜ r ≡ tableStep s b ⌝ }
     ensures small { λ r. ⌜ r < 64 ⌝ }

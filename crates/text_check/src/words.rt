@@ -8,7 +8,7 @@ ghost use Rattle.text.specs.Octets.{octetOf};
 ghost use Rattle.text_check.specs.FastCheck.{isGood, IsState, tableStep, afterWord, textMask};
 use crate::ascii::ascii_word;
 use crate::state_table::BAD;
-use crate::state_table::step;
+use crate::state_table::table_step;
 use crate::three_byte_runs::run_of_four;
 use crate::three_byte_runs::run_of_twelve;
 use crate::three_byte_runs::run_of_two;
@@ -22,7 +22,7 @@ fn after_two_bytes(s: u64, a: u8, b: u8) -> u64
     if run_of_two(s, a as u32, b as u32) {
         return (s + 6) % 18;
     }
-    step(step(s, a), b)
+    table_step(table_step(s, a), b)
 }
 
 // The state after the first two octets of w. They are often zero, because they are masked out.

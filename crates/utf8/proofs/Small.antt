@@ -11,7 +11,7 @@ use borrow.Author.Tests.{leb-true}
 use Rattle.laws.specs.Pick.{pick}
 use Rattle.laws.proofs.Pick.{never}
 use Rattle.laws.proofs.EachBelow.{and-l, and-r}
-use Rattle.utf8.specs.Utf8.{Valid, Char, Fit, Range, _‥_, CharRow, _then_, inside, charTable, lookUp, dueAfter, empty, more, char, no-more, one-more}
+use Rattle.utf8.specs.Utf8.{Valid, Char, Fit, Range, _‥_, CharRow, _then_, inside, charTable, rangesAfter, dueAfter, empty, more, char, no-more, one-more}
 
 narrow : List Range → Bool
 narrow [] = true
@@ -21,7 +21,7 @@ narrows : List CharRow → Bool
 narrows [] = true
 narrows (((low ‥ high) then ds) ∷ rows) = (leb high 255 && narrow ds) && narrows rows
 
-row-narrow : (rows : List CharRow) → narrows rows ≡ true → (x : ℕ) (ds : List Range) → lookUp rows x ≡ some ds → (x < 256) × (narrow ds ≡ true)
+row-narrow : (rows : List CharRow) → narrows rows ≡ true → (x : ℕ) (ds : List Range) → rangesAfter rows x ≡ some ds → (x < 256) × (narrow ds ≡ true)
 unfolding narrows
 row-narrow [] t x ds e = never (cc)
 row-narrow (((low ‥ high) then ds′) ∷ rows) t x ds e = go (inside (low ‥ high) x) refl e (row-narrow rows (and-r (leb high 255 && narrow ds′) (narrows rows) t) x ds)
@@ -29,7 +29,7 @@ row-narrow (((low ‥ high) then ds′) ∷ rows) t x ds e = go (inside (low ‥
     h : leb high 255 && narrow ds′ ≡ true
     h = and-l (leb high 255 && narrow ds′) (narrows rows) t
 
-    go : (b : Bool) → leb low x && leb x high ≡ b → pick b (some ds′) (lookUp rows x) ≡ some ds → (lookUp rows x ≡ some ds → (x < 256) × (narrow ds ≡ true)) → (x < 256) × (narrow ds ≡ true)
+    go : (b : Bool) → leb low x && leb x high ≡ b → pick b (some ds′) (rangesAfter rows x) ≡ some ds → (rangesAfter rows x ≡ some ds → (x < 256) × (narrow ds ≡ true)) → (x < 256) × (narrow ds ≡ true)
     go true p q ih = (omega (arith, leb-true x high (and-r (leb low x) (leb x high) p), leb-true high 255 (and-l (leb high 255) (narrow ds′) h)), (let w : ds′ ≡ ds = cc in subst (λ (d : List Range). narrow d ≡ true) w (and-r (leb high 255) (narrow ds′) h)))
     go false p q ih = ih q
 

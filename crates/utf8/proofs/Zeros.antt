@@ -11,7 +11,7 @@ use Rattle.laws.proofs.Pick.{never}
 use Rattle.laws.proofs.EachBelow.{and-left, and-right}
 use Rattle.counts.specs.Counts.{byte}
 use Rattle.utf8.specs.declared.Utf8.the-variants.{Good, BadAt}
-use Rattle.utf8.specs.Utf8.{Range, _‥_, CharRow, _then_, inside, charTable, lookUp, dueAfter, Valid, going, stopped, startChar, verdictFrom, firstBad}
+use Rattle.utf8.specs.Utf8.{Range, _‥_, CharRow, _then_, inside, charTable, rangesAfter, dueAfter, Valid, going, stopped, startChar, verdictFrom, firstBad}
 use Rattle.utf8.proofs.Valid.{bad-good, verdict-stopped, good-valid, valid-good}
 
 -- no range contains 0
@@ -23,11 +23,11 @@ abbrev all-above : List CharRow → Bool
 all-above [] = true
 all-above ((r then ds) ∷ rows) = above ds && all-above rows
 
-row-above : (rows : List CharRow) → T (all-above rows) → (x : ℕ) (ds : List Range) → lookUp rows x ≡ some ds → T (above ds)
+row-above : (rows : List CharRow) → T (all-above rows) → (x : ℕ) (ds : List Range) → rangesAfter rows x ≡ some ds → T (above ds)
 row-above [] t x ds e = never (cc)
 row-above ((r then ds') ∷ rows) t x ds e = go (row-above rows (and-right (above ds') (all-above rows) t) x ds) (inside r x) e
   where
-    go : (lookUp rows x ≡ some ds → T (above ds)) → (b : Bool) → pick b (some ds') (lookUp rows x) ≡ some ds → T (above ds)
+    go : (rangesAfter rows x ≡ some ds → T (above ds)) → (b : Bool) → pick b (some ds') (rangesAfter rows x) ≡ some ds → T (above ds)
     go ih true q = let w : ds' ≡ ds = cc in subst (λ (l : List Range). T (above l)) w (and-left (above ds') (all-above rows) t)
     go ih false q = ih q
 

@@ -17,6 +17,7 @@ infix 50 _then_
 pub data Range : Type 0 where
   _‥_ : ℕ → ℕ → Range
 
+-- whether a byte is in a range
 abbrev pub inside : Range → ℕ → Bool
 inside (low ‥ high) x = leb low x && leb x high
 
@@ -42,13 +43,14 @@ charTable =
     ∷ (0xF4 ‥ 0xF4 then 0x80 ‥ 0x8F ∷ tail ∷ tail ∷ [])
     ∷ []
 
--- the ranges of the bytes after first byte x; none if no row has x
-abbrev pub lookUp : List CharRow → ℕ → Option (List Range)
-lookUp [] x = none
-lookUp ((r then ds) ∷ rows) x = pick (inside r x) (some ds) (lookUp rows x)
+-- the ranges of the bytes that must follow first byte x, by some rows; none if no row has x
+abbrev pub rangesAfter : List CharRow → ℕ → Option (List Range)
+rangesAfter [] x = none
+rangesAfter ((r then ds) ∷ rows) x = pick (inside r x) (some ds) (rangesAfter rows x)
 
+-- the same by the whole table
 unfoldable pub dueAfter : ℕ → Option (List Range)
-dueAfter x = lookUp charTable x
+dueAfter x = rangesAfter charTable x
 
 -- ---- what is valid
 
@@ -57,6 +59,7 @@ pub data Fit : List Range → List ℕ → Type 0 where
   no-more : Fit [] []
   one-more : {d : Range} {ds : List Range} {x : ℕ} {xs : List ℕ} → inside d x ≡ true → Fit ds xs → Fit (d ∷ ds) (x ∷ xs)
 
+-- RFC 3629: UTF8-char, one character
 pub data Char : List ℕ → Type 0 where
   char : {x : ℕ} {ds : List Range} {xs : List ℕ} → dueAfter x ≡ some ds → Fit ds xs → Char (x ∷ xs)
 
@@ -78,15 +81,18 @@ pub data State : Type 0 where
   going : List Range → ℕ → State
   stopped : ℕ → State
 
+-- the state after a first byte, number `at`, with these ranges due; `none` if the byte is bad
 abbrev pub startChar : Option (List Range) → ℕ → State
 startChar (some ds) at = going ds at
 startChar none at = stopped at
 
+-- the state after byte x, number `at`
 abbrev pub nextState : State → ℕ → ℕ → State
 nextState (stopped n) at x = stopped n
 nextState (going [] n) at x = startChar (dueAfter x) at
 nextState (going (d ∷ ds) n) at x = pick (inside d x) (going ds n) (stopped n)
 
+-- the verdict if the text ends here
 abbrev pub verdict : State → Utf8
 verdict (stopped n) = BadAt (byte n)
 verdict (going [] n) = Good
@@ -97,5 +103,6 @@ abbrev pub verdictFrom : State → ℕ → List ℕ → Utf8
 verdictFrom s at [] = verdict s
 verdictFrom s at (x ∷ xs) = verdictFrom (nextState s at x) (suc at) xs
 
+-- THE VERDICT on a text: good, or where its first bad character starts
 unfoldable pub firstBad : List ℕ → Utf8
 firstBad xs = verdictFrom (going [] 0) 0 xs

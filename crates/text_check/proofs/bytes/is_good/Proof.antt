@@ -14,7 +14,7 @@ returns c =
     bytes-finish text _ 0 (p .result) (let e = c .if1 .taken in omega arith) (skip-at text _ 0 (p .result) (p .ensures) (answer-start text))
 
 is-good-from-requires : tie.Need-is-good-from-requires
-is-good-from-requires c κs = c .before .skip-whole .ensures .in-text
+is-good-from-requires c κs = c .before .skip-whole .ensures .in-bounds
 
 returns-2 : tie.Need-returns-2
 returns-2 c = c .is-good-from .ensures ∙ c .before .before .skip-whole .ensures .same-verdict

@@ -46,10 +46,10 @@ skip-by-words-requires : tie.Need-skip-by-words-requires Inv-loop μ-loop
 skip-by-words-requires c κs = search needs
 
 loop-less : tie.Need-loop-less Inv-loop μ-loop
-loop-less c = let o = c .skip-by-words .ensures .forward in let w = c .skip-by-words .ensures .in-text in omega arith
+loop-less c = let o = c .skip-by-words .ensures .forward in let w = c .skip-by-words .ensures .in-bounds in omega arith
 
 loop-again : tie.Need-loop-again Inv-loop μ-loop
-loop-again c = (c .skip-by-words .ensures .in-text, rw (c .before .if2 .taken) (skip-at _ _ _ _ (c .skip-by-words .ensures) (rw (c .before .if2 .taken) at (byte (c .before .before .before)))))
+loop-again c = (c .skip-by-words .ensures .in-bounds, rw (c .before .if2 .taken) (skip-at _ _ _ _ (c .skip-by-words .ensures) (rw (c .before .if2 .taken) at (byte (c .before .before .before)))))
 
 loop-less-2 : tie.Need-loop-less-2 Inv-loop μ-loop
 loop-less-2 c = search needs

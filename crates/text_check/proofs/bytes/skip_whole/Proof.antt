@@ -5,13 +5,13 @@ use Rattle.text_check.proofs.bytes.skip_whole.Statement.{statement}
 use Rattle.text_check.proofs.bytes.skip_whole.Tie as tie
 
 skip-runs-requires : tie.Need-skip-runs-requires
-skip-runs-requires c κs = c .skip-ascii .ensures .in-text
+skip-runs-requires c κs = c .skip-ascii .ensures .in-bounds
 
 skip-by-words-requires : tie.Need-skip-by-words-requires
-skip-by-words-requires c κs = c .skip-runs .ensures .in-text
+skip-by-words-requires c κs = c .skip-runs .ensures .in-bounds
 
 skip-last-requires : tie.Need-skip-last-requires
-skip-last-requires c κs = c .skip-by-words .ensures .in-text
+skip-last-requires c κs = c .skip-by-words .ensures .in-bounds
 
 returns : tie.Need-returns
 returns c = skip-more (c .before .before .before .skip-ascii .ensures) (skip-more (c .before .before .skip-runs .ensures) (skip-more (c .before .skip-by-words .ensures) (c .skip-last .ensures)))

@@ -7,11 +7,11 @@ use Rattle.text_check.proofs.bytes.step_keeping_zeros.Tie as tie
 
 returns : tie.Need-returns
 unfolding stepKeepingZeros
-returns c = (rw (eq-eqb _ _ (c .before .if1 .taken)) (c .step .ensures .0), search needs)
+returns c = (rw (eq-eqb _ _ (c .before .if1 .taken)) (c .table-step .ensures .0), search needs)
 
 returns-2 : tie.Need-returns-2
 unfolding stepKeepingZeros
-returns-2 c = (rw (ne-eqb _ _ (c .before .if1 .left)) (c .step2 .ensures .0), search needs)
+returns-2 c = (rw (ne-eqb _ _ (c .before .if1 .left)) (c .table-step2 .ensures .0), search needs)
 
 pub step-keeping-zeros-spec : {M : Type 1} → statement M
 step-keeping-zeros-spec =

@@ -14,14 +14,14 @@ add-result c = omega (arith, c .before .before .pre .below)
 returns : tie.Need-returns
 returns c = as-state (two-lead _ _ _ (search needs) (search needs) (told (c .before .run-of-two .ensures) (c .if1 .taken))) (state-two _ _ _ (c .before .before .pre) (search needs) (search needs))
 
-step-requires : tie.Need-step-requires
-step-requires c κs = omega (arith, c .before .before .pre .below)
+table-step-requires : tie.Need-table-step-requires
+table-step-requires c κs = omega (arith, c .before .before .pre .below)
 
 returns-2 : tie.Need-returns-2
-returns-2 c = as-state (sym (c .step2 .ensures .0 ∙ rw (c .before .step .ensures .0))) (state-two _ _ _ (c .before .before .before .before .pre) (search needs) (search needs))
+returns-2 c = as-state (sym (c .table-step2 .ensures .0 ∙ rw (c .before .table-step .ensures .0))) (state-two _ _ _ (c .before .before .before .before .pre) (search needs) (search needs))
 
 pub after-two-bytes-spec : {M : Type 1} → statement M
 after-two-bytes-spec =
     tie.close
     (tie.spec
-    (λ c κs. search needs) add-result returns step-requires (λ c κs. search needs) returns-2)
+    (λ c κs. search needs) add-result returns table-step-requires (λ c κs. search needs) returns-2)
