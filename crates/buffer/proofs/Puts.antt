@@ -1,18 +1,16 @@
 -- A field put by products and remainders, and when an act changes the buffer. From `put-lt`, by cases on the tests, and by induction on the table.
 use Prim.Native.Nat.{ℕ, _+_, _-_, _*_, _/_, _%_, _^_, _<_, _≤_}
 use mathlib.Core.Path.{_≡_, refl, ap, _∙_, fun-ext}
-use mathlib.Core.Bool.{Bool, true}
+use mathlib.Core.Bool.{true}
 use mathlib.Core.List.{List, [], _∷_}
 use lib.ListN.{length, getD, set}
-use lib.Dec.{leb}
 use lib.Pow.{pow-pos}
 use borrow.Author.Tests.{lt-ltb, le-ltb, lt-leb, ltb-true, leb-true}
-use Rattle.laws.specs.Pick.{both}
 use Rattle.laws.proofs.Pick.{both-left, both-right}
 use Rattle.laws.specs.Bits.{putField}
 use Rattle.laws.proofs.Bits.{put-lt}
 use Rattle.text.specs.Written.{written, eachFirst}
-use Rattle.slots.specs.Slots.{Slot, put, putAll, fits}
+use Rattle.slots.specs.Slots.{Slot, put, putAll, fits, bitsWithin}
 use Rattle.buffer.specs.Filling.{putIfFits, putIn, putEach, formatted, fillText, putIns}
 
 module _ (w at span v : ℕ) where
@@ -54,13 +52,8 @@ unfolding putIn put
 in-put s v ws h hv = ap (set ws (s .word)) (put-fitting (getD ws (s .word) 0) (s .at) (s .span) v h hv)
 
 -- ---- a table put slot by slot
--- each slot ends within its word
-unfoldable pub inWord : {K : Type 0} → List (Slot K) → Bool
-inWord [] = true
-inWord (s ∷ ss) = both (leb (s .at + s .span) 32) (inWord ss)
-
-pub ins-put : {K : Type 0} (ss : List (Slot K)) (v : K → ℕ) (ws : List ℕ) → inWord ss ≡ true → fits ss v ≡ true → putIns ss v ws ≡ putAll ss v ws
-unfolding putIns inWord putAll fits
+pub ins-put : {K : Type 0} (ss : List (Slot K)) (v : K → ℕ) (ws : List ℕ) → bitsWithin 32 ss ≡ true → fits ss v ≡ true → putIns ss v ws ≡ putAll ss v ws
+unfolding putIns bitsWithin putAll fits
 ins-put [] v ws w f = refl
 ins-put (s ∷ ss) v ws w f =
     ap (putIn (s .word) (s .at) (s .span) (v (s .key))) (ins-put ss v ws (both-right _ _ w) (both-right _ _ f)) ∙ in-put s (v (s .key)) (putAll ss v ws) (leb-true _ _ (both-left _ _ w)) (ltb-true _ _ (both-left _ _ f))

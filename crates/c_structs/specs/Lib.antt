@@ -1,2 +1,2 @@
 pub mod Crossed
-pub mod Given
+pub mod Codes

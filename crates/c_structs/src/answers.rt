@@ -2,13 +2,13 @@
 ghost use mathlib.Core.Path.{_≡_};
 ghost use Rattle.records.specs.declared.answers.Answer.{Answer};
 ghost use Rattle.c_structs.specs.Crossed.{answered, withRefusal, readCrossed, walkCrossed, packetCrossed, sizeCrossed, byteCrossed, stepCrossed, editedCrossed};
-use crate::numbers::Numbers;
-use crate::numbers::no_numbers;
-use crate::numbers::of_message;
 use kinds::choices::format_code;
 use kinds::refusal::Refusal;
 use kinds::refusal::refusal_number;
 use kinds::refusal::refusal_place;
+use numbers::Numbers;
+use numbers::of_record::no_numbers;
+use numbers::of_record::numbers_of;
 use reading::packet;
 use records::answers::Answer;
 use records::answers::Edited;
@@ -109,7 +109,7 @@ pub fn of_read(read: Read) -> RecordAnswer
         Read::Message(message) => RecordAnswer {
             refusal: 0,
             place: 0,
-            numbers: of_message(message),
+            numbers: numbers_of(message),
         },
         Read::Refused(refusal) => refused_record(refusal, no_numbers()),
     }
@@ -148,7 +148,7 @@ pub fn of_walked(walked: Walked) -> WalkAnswer
             ump_type: 0,
             size: 0,
             next: next.0,
-            numbers: of_message(message),
+            numbers: numbers_of(message),
         },
         Walked::Refused { refusal, next } => WalkAnswer {
             found: 3,
@@ -234,7 +234,7 @@ pub fn of_edited(edited: Edited, numbers: Numbers) -> RecordAnswer
         Answer::Done => RecordAnswer {
             refusal: 0,
             place: 0,
-            numbers: of_message(message),
+            numbers: numbers_of(message),
         },
         Answer::Refused(refusal) => refused_record(refusal, numbers),
     }

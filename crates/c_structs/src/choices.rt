@@ -1,58 +1,58 @@
 // Named choices from their codes.
 ghost use mathlib.Core.Path.{_≡_};
-ghost use Rattle.c_structs.specs.Given.{hintGiven, portGiven, directionGiven};
+ghost use Rattle.c_structs.specs.Codes.{hintFromCode, portFromCode, directionFromCode};
 use kinds::choices::Direction;
 use kinds::choices::Midi1Port;
 use kinds::choices::UiHint;
 use kinds::refusal::Refusal;
 
-pub enum HintGiven {
+pub enum HintFromCode {
     Is(UiHint),
     Refused(Refusal),
 }
 
-pub enum PortGiven {
+pub enum PortFromCode {
     Is(Midi1Port),
     Refused(Refusal),
 }
 
-pub enum DirectionGiven {
+pub enum DirectionFromCode {
     Is(Direction),
     Refused(Refusal),
 }
 
-pub fn hint_given(code: u32) -> HintGiven
-    ensures { λ r. ⌜ r ≡ hintGiven code ⌝ }
+pub fn hint_from_code(code: u32) -> HintFromCode
+    ensures { λ r. ⌜ r ≡ hintFromCode code ⌝ }
 {
     match code {
-        0 => HintGiven::Is(UiHint::Undeclared),
-        1 => HintGiven::Is(UiHint::Receiver),
-        2 => HintGiven::Is(UiHint::Sender),
-        3 => HintGiven::Is(UiHint::SenderReceiver),
-        _ => HintGiven::Refused(Refusal::NumberTooLarge),
+        0 => HintFromCode::Is(UiHint::Undeclared),
+        1 => HintFromCode::Is(UiHint::Receiver),
+        2 => HintFromCode::Is(UiHint::Sender),
+        3 => HintFromCode::Is(UiHint::SenderReceiver),
+        _ => HintFromCode::Refused(Refusal::NumberTooLarge),
     }
 }
 
-pub fn port_given(code: u32) -> PortGiven
-    ensures { λ r. ⌜ r ≡ portGiven code ⌝ }
+pub fn port_from_code(code: u32) -> PortFromCode
+    ensures { λ r. ⌜ r ≡ portFromCode code ⌝ }
 {
     match code {
-        0 => PortGiven::Is(Midi1Port::None),
-        1 => PortGiven::Is(Midi1Port::DontRestrictBandwidth),
-        2 => PortGiven::Is(Midi1Port::RestrictBandwidth),
-        3 => PortGiven::Refused(Refusal::BadPort),
-        _ => PortGiven::Refused(Refusal::NumberTooLarge),
+        0 => PortFromCode::Is(Midi1Port::None),
+        1 => PortFromCode::Is(Midi1Port::DontRestrictBandwidth),
+        2 => PortFromCode::Is(Midi1Port::RestrictBandwidth),
+        3 => PortFromCode::Refused(Refusal::BadPort),
+        _ => PortFromCode::Refused(Refusal::NumberTooLarge),
     }
 }
 
-pub fn direction_given(code: u32) -> DirectionGiven
-    ensures { λ r. ⌜ r ≡ directionGiven code ⌝ }
+pub fn direction_from_code(code: u32) -> DirectionFromCode
+    ensures { λ r. ⌜ r ≡ directionFromCode code ⌝ }
 {
     match code {
-        0 => DirectionGiven::Refused(Refusal::BadDirection),
-        1 => DirectionGiven::Is(Direction::Input),
-        2 => DirectionGiven::Is(Direction::Output),
-        3 => DirectionGiven::Is(Direction::Bidirectional),
-        _ => DirectionGiven::Refused(Refusal::NumberTooLarge),
+        0 => DirectionFromCode::Refused(Refusal::BadDirection),
+        1 => DirectionFromCode::Is(Direction::Input),
+        2 => DirectionFromCode::Is(Direction::Output),
+        3 => DirectionFromCode::Is(Direction::Bidirectional),
+        _ => DirectionFromCode::Refused(Refusal::NumberTooLarge),
     }
 }

@@ -1,5 +1,3 @@
-// What crosses to C and to Rust: each answer as a struct of numbers, and a record from its numbers.
+// Answers as structs of numbers for C and Rust, and named choices from their codes.
 pub mod answers;
 pub mod choices;
-pub mod given;
-pub mod numbers;

@@ -3,99 +3,83 @@ use Prim.Native.Nat.{ℕ}
 use mathlib.Core.List.{List}
 use Rattle.counts.specs.Counts.{packet, byte}
 use Rattle.text.specs.declared.TextPlace.{TextPlace}
-use Rattle.kinds.specs.Fields.{Number, Setting}
-use Rattle.fields.specs.declared.NumberName.{NumberName}
-use Rattle.fields.specs.declared.NumberName.the-variants as N
-use Rattle.fields.specs.Named.{numberNamed}
+use Rattle.kinds.specs.Fields.{Setting}
 use Rattle.records.specs.declared.message.Message.{Message}
-use Rattle.records.specs.Records.{kindIn}
-use Rattle.records.specs.Settings.{majorOf, minorOf, setRecord}
+use Rattle.records.specs.Settings.{setRecord}
 use Rattle.standard.specs.Words.{Outcome, unchanged, setOn, writeOn}
-use Rattle.c_structs.specs.declared.numbers.Numbers.{Numbers}
+use Rattle.numbers.specs.declared.Numbers.{Numbers}
 use Rattle.c_structs.specs.declared.answers.RecordAnswer.{RecordAnswer}
-use Rattle.c_structs.specs.declared.given.Given.{Given}
-use Rattle.c_structs.specs.declared.given.Given.the-variants as G
-use Rattle.c_structs.specs.declared.choices.HintGiven.{HintGiven}
-use Rattle.c_structs.specs.declared.choices.HintGiven.the-variants as H
-use Rattle.c_structs.specs.declared.choices.PortGiven.{PortGiven}
-use Rattle.c_structs.specs.declared.choices.PortGiven.the-variants as P
-use Rattle.c_structs.specs.declared.choices.DirectionGiven.{DirectionGiven}
-use Rattle.c_structs.specs.declared.choices.DirectionGiven.the-variants as D
+use Rattle.numbers.specs.declared.to_record.FromNumbers.{FromNumbers}
+use Rattle.numbers.specs.declared.to_record.FromNumbers.the-variants as G
+use Rattle.c_structs.specs.declared.choices.HintFromCode.{HintFromCode}
+use Rattle.c_structs.specs.declared.choices.HintFromCode.the-variants as H
+use Rattle.c_structs.specs.declared.choices.PortFromCode.{PortFromCode}
+use Rattle.c_structs.specs.declared.choices.PortFromCode.the-variants as P
+use Rattle.c_structs.specs.declared.choices.DirectionFromCode.{DirectionFromCode}
+use Rattle.c_structs.specs.declared.choices.DirectionFromCode.the-variants as D
 use Rattle.c_structs.specs.Crossed.{withRefusal, editedCrossed}
-use Rattle.c_structs.specs.Given.{givenOf, hintGiven, portGiven, directionGiven}
+use Rattle.numbers.specs.FromNumbers.{fromNumbers}
+use Rattle.c_structs.specs.Codes.{hintFromCode, portFromCode, directionFromCode}
 
 -- a text place from its two numbers
 abbrev pub placeAt : ℕ → ℕ → TextPlace
 placeAt p b = record { packet = packet p; byte = byte b }
 
 -- ---- choices set on words: a code that names none is refused before the words are looked at
-abbrev hintSet : HintGiven → List ℕ → Outcome
+abbrev hintSet : HintFromCode → List ℕ → Outcome
 hintSet (H.Is h) ws = setOn (Setting.ui-hint h) ws
 hintSet (H.Refused r) ws = unchanged r ws
 
 abbrev pub hintOn : ℕ → List ℕ → Outcome
-hintOn n ws = hintSet (hintGiven n) ws
+hintOn n ws = hintSet (hintFromCode n) ws
 
-abbrev portSet : PortGiven → List ℕ → Outcome
+abbrev portSet : PortFromCode → List ℕ → Outcome
 portSet (P.Is p) ws = setOn (Setting.midi1-port p) ws
 portSet (P.Refused r) ws = unchanged r ws
 
 abbrev pub portOn : ℕ → List ℕ → Outcome
-portOn n ws = portSet (portGiven n) ws
+portOn n ws = portSet (portFromCode n) ws
 
-abbrev directionSet : DirectionGiven → List ℕ → Outcome
+abbrev directionSet : DirectionFromCode → List ℕ → Outcome
 directionSet (D.Is d) ws = setOn (Setting.direction d) ws
 directionSet (D.Refused r) ws = unchanged r ws
 
 abbrev pub directionOn : ℕ → List ℕ → Outcome
-directionOn n ws = directionSet (directionGiven n) ws
+directionOn n ws = directionSet (directionFromCode n) ws
 
 -- ---- on a record: numbers that are no record are handed back as they came
-abbrev setGiven : Given → (Message → Setting) → Numbers → RecordAnswer
-setGiven (G.Message m) s c = editedCrossed (setRecord (s m) m .answer) (setRecord (s m) m .message) c
-setGiven (G.Refused r) s c = withRefusal r c
+abbrev setFrom : FromNumbers → (Message → Setting) → Numbers → RecordAnswer
+setFrom (G.Message m) s c = editedCrossed (setRecord (s m) m .answer) (setRecord (s m) m .message) c
+setFrom (G.Refused r) s c = withRefusal r c
 
 abbrev pub setIn : (Message → Setting) → Numbers → RecordAnswer
-setIn s c = setGiven (givenOf c) s c
+setIn s c = setFrom (fromNumbers c) s c
 
--- a number of a record by its name: a version is that of the record's own kind
-abbrev pub numberIn : NumberName → ℕ → Message → Setting
-numberIn N.DiscoveryVersionMajor x m = Setting.number (majorOf (kindIn m)) x
-numberIn N.DiscoveryVersionMinor x m = Setting.number (minorOf (kindIn m)) x
-numberIn N.InfoVersionMajor x m = Setting.number (majorOf (kindIn m)) x
-numberIn N.InfoVersionMinor x m = Setting.number (minorOf (kindIn m)) x
-numberIn N.NumberOfFunctionBlocks x m = Setting.number Number.number-of-function-blocks x
-numberIn N.FunctionBlockNumber x m = Setting.number Number.function-block-number x
-numberIn N.FirstGroup x m = Setting.number Number.first-group x
-numberIn N.NumberOfGroupsSpanned x m = Setting.number Number.number-of-groups-spanned x
-numberIn N.MidiCiVersion x m = Setting.number Number.midi-ci-version x
-numberIn N.MaxNumberOfMidiCiStreams x m = Setting.number Number.max-number-of-midi-ci-streams x
-
-abbrev hintEdit : HintGiven → Numbers → RecordAnswer
+abbrev hintEdit : HintFromCode → Numbers → RecordAnswer
 hintEdit (H.Is h) c = setIn (λ m. Setting.ui-hint h) c
 hintEdit (H.Refused r) c = withRefusal r c
 
 abbrev pub hintIn : ℕ → Numbers → RecordAnswer
-hintIn n c = hintEdit (hintGiven n) c
+hintIn n c = hintEdit (hintFromCode n) c
 
-abbrev portEdit : PortGiven → Numbers → RecordAnswer
+abbrev portEdit : PortFromCode → Numbers → RecordAnswer
 portEdit (P.Is p) c = setIn (λ m. Setting.midi1-port p) c
 portEdit (P.Refused r) c = withRefusal r c
 
 abbrev pub portIn : ℕ → Numbers → RecordAnswer
-portIn n c = portEdit (portGiven n) c
+portIn n c = portEdit (portFromCode n) c
 
-abbrev directionEdit : DirectionGiven → Numbers → RecordAnswer
+abbrev directionEdit : DirectionFromCode → Numbers → RecordAnswer
 directionEdit (D.Is d) c = setIn (λ m. Setting.direction d) c
 directionEdit (D.Refused r) c = withRefusal r c
 
 abbrev pub directionIn : ℕ → Numbers → RecordAnswer
-directionIn n c = directionEdit (directionGiven n) c
+directionIn n c = directionEdit (directionFromCode n) c
 
 -- ---- writing a record
-abbrev writeGiven : Given → List ℕ → Outcome
-writeGiven (G.Message m) ws = writeOn m ws
-writeGiven (G.Refused r) ws = unchanged r ws
+abbrev writeFrom : FromNumbers → List ℕ → Outcome
+writeFrom (G.Message m) ws = writeOn m ws
+writeFrom (G.Refused r) ws = unchanged r ws
 
 abbrev pub writeIn : Numbers → List ℕ → Outcome
-writeIn c ws = writeGiven (givenOf c) ws
+writeIn c ws = writeFrom (fromNumbers c) ws

@@ -21,12 +21,12 @@ use c_structs::answers::of_refusal;
 use c_structs::answers::of_size;
 use c_structs::answers::of_step;
 use c_structs::answers::of_walked;
-use c_structs::given::Given;
-use c_structs::given::of_numbers;
-use c_structs::numbers::Numbers;
 use counts::PacketNumber;
 use counts::TextByteNumber;
 use counts::WordNumber;
+use numbers::Numbers;
+use numbers::to_record::FromNumbers;
+use numbers::to_record::record_from;
 use reading::by_byte;
 use reading::message;
 use reading::packet;
@@ -89,9 +89,9 @@ pub extern "C" fn frayedbin_write(words: &mut [u32], record: Numbers) -> Answere
     ensures answer { λ r. ⌜ r ≡ answered (writeIn «record» (now (words .entry)) .answer) ⌝ }
     ensures buffer { λ r. ⌜ now (words .exit) ≡ writeIn «record» (now (words .entry)) .words ⌝ }
 {
-    match of_numbers(record) {
-        Given::Message(message) => of_answer(writing::write::write(words, message)),
-        Given::Refused(refusal) => of_refusal(refusal),
+    match record_from(record) {
+        FromNumbers::Message(message) => of_answer(writing::write::write(words, message)),
+        FromNumbers::Refused(refusal) => of_refusal(refusal),
     }
 }
 

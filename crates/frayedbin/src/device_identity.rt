@@ -11,11 +11,11 @@ use c_structs::answers::RecordAnswer;
 use c_structs::answers::of_answer;
 use c_structs::answers::of_edited;
 use c_structs::answers::refused_record;
-use c_structs::given::Given;
-use c_structs::given::of_numbers;
-use c_structs::numbers::Numbers;
-use fields::PairName;
+use numbers::Numbers;
+use numbers::to_record::FromNumbers;
+use numbers::to_record::record_from;
 use settings::device_identity;
+use table::names::PairName;
 
 #[no_mangle]
 pub extern "C" fn frayedbin_device_identity_set_device_manufacturer(
@@ -77,9 +77,12 @@ pub extern "C" fn frayedbin_record_set_device_manufacturer(
 ) -> RecordAnswer
     ensures { λ r. ⌜ r ≡ setIn (λ m. Setting.device-manufacturer a b c) «record» ⌝ }
 {
-    match of_numbers(record) {
-        Given::Message(message) => of_edited(message.set_device_manufacturer(a, b, c), record),
-        Given::Refused(refusal) => refused_record(refusal, record),
+    match record_from(record) {
+        FromNumbers::Message(message) => of_edited(
+            message.set_device_manufacturer(a, b, c),
+            record,
+        ),
+        FromNumbers::Refused(refusal) => refused_record(refusal, record),
     }
 }
 
@@ -110,8 +113,11 @@ pub extern "C" fn frayedbin_record_set_software_version(
 ) -> RecordAnswer
     ensures { λ r. ⌜ r ≡ setIn (λ m. Setting.software-version a b c d) «record» ⌝ }
 {
-    match of_numbers(record) {
-        Given::Message(message) => of_edited(message.set_software_version(a, b, c, d), record),
-        Given::Refused(refusal) => refused_record(refusal, record),
+    match record_from(record) {
+        FromNumbers::Message(message) => of_edited(
+            message.set_software_version(a, b, c, d),
+            record,
+        ),
+        FromNumbers::Refused(refusal) => refused_record(refusal, record),
     }
 }

@@ -14,18 +14,18 @@ use c_structs::answers::of_answer;
 use c_structs::answers::of_edited;
 use c_structs::answers::of_refusal;
 use c_structs::answers::refused_record;
-use c_structs::choices::DirectionGiven;
-use c_structs::choices::HintGiven;
-use c_structs::choices::PortGiven;
-use c_structs::choices::direction_given;
-use c_structs::choices::hint_given;
-use c_structs::choices::port_given;
-use c_structs::given::Given;
-use c_structs::given::of_numbers;
-use c_structs::numbers::Numbers;
-use fields::FlagName;
-use fields::NumberName;
+use c_structs::choices::DirectionFromCode;
+use c_structs::choices::HintFromCode;
+use c_structs::choices::PortFromCode;
+use c_structs::choices::direction_from_code;
+use c_structs::choices::hint_from_code;
+use c_structs::choices::port_from_code;
+use numbers::Numbers;
+use numbers::to_record::FromNumbers;
+use numbers::to_record::record_from;
 use settings::function_block_info;
+use table::names::FlagName;
+use table::names::NumberName;
 
 #[no_mangle]
 pub extern "C" fn frayedbin_function_block_info_set_active(words: &mut [u32], on: bool) -> Answered
@@ -54,9 +54,9 @@ pub extern "C" fn frayedbin_function_block_info_set_ui_hint(
     ensures answer { λ r. ⌜ r ≡ answered (hintOn code (now (words .entry)) .answer) ⌝ }
     ensures buffer { λ r. ⌜ now (words .exit) ≡ hintOn code (now (words .entry)) .words ⌝ }
 {
-    match hint_given(code) {
-        HintGiven::Is(hint) => of_answer(function_block_info::set_ui_hint(words, hint)),
-        HintGiven::Refused(refusal) => of_refusal(refusal),
+    match hint_from_code(code) {
+        HintFromCode::Is(hint) => of_answer(function_block_info::set_ui_hint(words, hint)),
+        HintFromCode::Refused(refusal) => of_refusal(refusal),
     }
 }
 
@@ -68,9 +68,9 @@ pub extern "C" fn frayedbin_function_block_info_set_midi1_port(
     ensures answer { λ r. ⌜ r ≡ answered (portOn code (now (words .entry)) .answer) ⌝ }
     ensures buffer { λ r. ⌜ now (words .exit) ≡ portOn code (now (words .entry)) .words ⌝ }
 {
-    match port_given(code) {
-        PortGiven::Is(port) => of_answer(function_block_info::set_midi1_port(words, port)),
-        PortGiven::Refused(refusal) => of_refusal(refusal),
+    match port_from_code(code) {
+        PortFromCode::Is(port) => of_answer(function_block_info::set_midi1_port(words, port)),
+        PortFromCode::Refused(refusal) => of_refusal(refusal),
     }
 }
 
@@ -82,12 +82,12 @@ pub extern "C" fn frayedbin_function_block_info_set_direction(
     ensures answer { λ r. ⌜ r ≡ answered (directionOn code (now (words .entry)) .answer) ⌝ }
     ensures buffer { λ r. ⌜ now (words .exit) ≡ directionOn code (now (words .entry)) .words ⌝ }
 {
-    match direction_given(code) {
-        DirectionGiven::Is(direction) => of_answer(function_block_info::set_direction(
+    match direction_from_code(code) {
+        DirectionFromCode::Is(direction) => of_answer(function_block_info::set_direction(
             words,
             direction,
         )),
-        DirectionGiven::Refused(refusal) => of_refusal(refusal),
+        DirectionFromCode::Refused(refusal) => of_refusal(refusal),
     }
 }
 
@@ -158,12 +158,12 @@ pub extern "C" fn frayedbin_record_set_function_block_number(
 pub extern "C" fn frayedbin_record_set_ui_hint(record: Numbers, code: u32) -> RecordAnswer
     ensures { λ r. ⌜ r ≡ hintIn code «record» ⌝ }
 {
-    match hint_given(code) {
-        HintGiven::Is(hint) => match of_numbers(record) {
-            Given::Message(message) => of_edited(message.set_ui_hint(hint), record),
-            Given::Refused(refusal) => refused_record(refusal, record),
+    match hint_from_code(code) {
+        HintFromCode::Is(hint) => match record_from(record) {
+            FromNumbers::Message(message) => of_edited(message.set_ui_hint(hint), record),
+            FromNumbers::Refused(refusal) => refused_record(refusal, record),
         },
-        HintGiven::Refused(refusal) => refused_record(refusal, record),
+        HintFromCode::Refused(refusal) => refused_record(refusal, record),
     }
 }
 
@@ -171,12 +171,12 @@ pub extern "C" fn frayedbin_record_set_ui_hint(record: Numbers, code: u32) -> Re
 pub extern "C" fn frayedbin_record_set_midi1_port(record: Numbers, code: u32) -> RecordAnswer
     ensures { λ r. ⌜ r ≡ portIn code «record» ⌝ }
 {
-    match port_given(code) {
-        PortGiven::Is(port) => match of_numbers(record) {
-            Given::Message(message) => of_edited(message.set_midi1_port(port), record),
-            Given::Refused(refusal) => refused_record(refusal, record),
+    match port_from_code(code) {
+        PortFromCode::Is(port) => match record_from(record) {
+            FromNumbers::Message(message) => of_edited(message.set_midi1_port(port), record),
+            FromNumbers::Refused(refusal) => refused_record(refusal, record),
         },
-        PortGiven::Refused(refusal) => refused_record(refusal, record),
+        PortFromCode::Refused(refusal) => refused_record(refusal, record),
     }
 }
 
@@ -184,12 +184,12 @@ pub extern "C" fn frayedbin_record_set_midi1_port(record: Numbers, code: u32) ->
 pub extern "C" fn frayedbin_record_set_direction(record: Numbers, code: u32) -> RecordAnswer
     ensures { λ r. ⌜ r ≡ directionIn code «record» ⌝ }
 {
-    match direction_given(code) {
-        DirectionGiven::Is(direction) => match of_numbers(record) {
-            Given::Message(message) => of_edited(message.set_direction(direction), record),
-            Given::Refused(refusal) => refused_record(refusal, record),
+    match direction_from_code(code) {
+        DirectionFromCode::Is(direction) => match record_from(record) {
+            FromNumbers::Message(message) => of_edited(message.set_direction(direction), record),
+            FromNumbers::Refused(refusal) => refused_record(refusal, record),
         },
-        DirectionGiven::Refused(refusal) => refused_record(refusal, record),
+        DirectionFromCode::Refused(refusal) => refused_record(refusal, record),
     }
 }
 

@@ -9,9 +9,9 @@ use c_structs::answers::RecordAnswer;
 use c_structs::answers::of_answer;
 use c_structs::answers::of_edited;
 use c_structs::answers::refused_record;
-use c_structs::given::Given;
-use c_structs::given::of_numbers;
-use c_structs::numbers::Numbers;
+use numbers::Numbers;
+use numbers::to_record::FromNumbers;
+use numbers::to_record::record_from;
 use text_settings::function_block_name;
 
 #[no_mangle]
@@ -39,8 +39,8 @@ pub extern "C" fn frayedbin_function_block_name_set_name(words: &mut [u32], name
 pub extern "C" fn frayedbin_record_set_function_block(record: Numbers, number: u32) -> RecordAnswer
     ensures { λ r. ⌜ r ≡ setIn (λ m. Setting.number Number.function-block number) «record» ⌝ }
 {
-    match of_numbers(record) {
-        Given::Message(message) => of_edited(message.set_function_block(number), record),
-        Given::Refused(refusal) => refused_record(refusal, record),
+    match record_from(record) {
+        FromNumbers::Message(message) => of_edited(message.set_function_block(number), record),
+        FromNumbers::Refused(refusal) => refused_record(refusal, record),
     }
 }

@@ -8,10 +8,10 @@ use crate::named::number_in;
 use c_structs::answers::RecordAnswer;
 use c_structs::answers::of_edited;
 use c_structs::answers::refused_record;
-use c_structs::given::Given;
-use c_structs::given::of_numbers;
-use c_structs::numbers::Numbers;
-use fields::NumberName;
+use numbers::Numbers;
+use numbers::to_record::FromNumbers;
+use numbers::to_record::record_from;
+use table::names::NumberName;
 
 #[no_mangle]
 pub extern "C" fn frayedbin_record_set_ump_version_major(
@@ -37,9 +37,9 @@ pub extern "C" fn frayedbin_record_set_ump_version_minor(
 pub extern "C" fn frayedbin_record_set_name(record: Numbers, name: &[u8]) -> RecordAnswer
     ensures { λ r. ⌜ r ≡ setIn (λ m. Setting.text (nameOf (kindIn m)) (now (name .entry))) «record» ⌝ }
 {
-    match of_numbers(record) {
-        Given::Message(message) => of_edited(message.set_name(name), record),
-        Given::Refused(refusal) => refused_record(refusal, record),
+    match record_from(record) {
+        FromNumbers::Message(message) => of_edited(message.set_name(name), record),
+        FromNumbers::Refused(refusal) => refused_record(refusal, record),
     }
 }
 
@@ -47,8 +47,8 @@ pub extern "C" fn frayedbin_record_set_name(record: Numbers, name: &[u8]) -> Rec
 pub extern "C" fn frayedbin_record_set_id(record: Numbers, id: &[u8]) -> RecordAnswer
     ensures { λ r. ⌜ r ≡ setIn (λ m. Setting.text Text.product-instance-id (now (id .entry))) «record» ⌝ }
 {
-    match of_numbers(record) {
-        Given::Message(message) => of_edited(message.set_id(id), record),
-        Given::Refused(refusal) => refused_record(refusal, record),
+    match record_from(record) {
+        FromNumbers::Message(message) => of_edited(message.set_id(id), record),
+        FromNumbers::Refused(refusal) => refused_record(refusal, record),
     }
 }

@@ -131,6 +131,10 @@ mostIn (texts t start) = 64
 abbrev pub mostOf : Kind → ℕ
 mostOf k = mostIn (layout k .body)
 
+abbrev pub hasText : Body → Bool
+hasText fixed = false
+hasText (texts t start) = true
+
 -- the kind of a status
 abbrev pub kinds : List Kind
 kinds = K.EndpointDiscovery ∷ K.EndpointInfo ∷ K.DeviceIdentity ∷ K.EndpointName ∷ K.ProductInstanceId ∷ K.FunctionBlockInfo ∷ K.FunctionBlockName ∷ []

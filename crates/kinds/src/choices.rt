@@ -1,6 +1,6 @@
 // The named choices of a function block and the format of a packet, with their codes.
 ghost use mathlib.Core.Path.{_≡_};
-ghost use Rattle.kinds.specs.Choices.{hintCode, portCode, directionCode, formatCode};
+ghost use Rattle.kinds.specs.Choices.{hintCode, hintOf, portCode, portOf, directionCode, directionOf, formatCode};
 
 pub enum UiHint {
     Undeclared,
@@ -67,5 +67,38 @@ pub fn format_code(format: Format) -> u32
         Format::Start => 1,
         Format::Continue => 2,
         Format::End => 3,
+    }
+}
+
+// The choice of a code: 3 is taken as restricted and direction 0 as both, which reading refuses before.
+
+pub fn hint_of(code: u8) -> UiHint
+    ensures { λ r. ⌜ r ≡ hintOf code ⌝ }
+{
+    match code {
+        0 => UiHint::Undeclared,
+        1 => UiHint::Receiver,
+        2 => UiHint::Sender,
+        _ => UiHint::SenderReceiver,
+    }
+}
+
+pub fn port_of(code: u8) -> Midi1Port
+    ensures { λ r. ⌜ r ≡ portOf code ⌝ }
+{
+    match code {
+        0 => Midi1Port::None,
+        1 => Midi1Port::DontRestrictBandwidth,
+        _ => Midi1Port::RestrictBandwidth,
+    }
+}
+
+pub fn direction_of(code: u8) -> Direction
+    ensures { λ r. ⌜ r ≡ directionOf code ⌝ }
+{
+    match code {
+        1 => Direction::Input,
+        2 => Direction::Output,
+        _ => Direction::Bidirectional,
     }
 }

@@ -15,8 +15,8 @@ use Rattle.kinds.specs.Refusals.{refusalNumber, refusalPlace}
 use Rattle.kinds.specs.Layout.{Body, fixed, texts, layout, capacityIn}
 use Rattle.records.specs.Records.{kindIn, packetsIn, numbersIn}
 use Rattle.standard.specs.Walk.{part}
-use Rattle.c_structs.specs.declared.numbers.Numbers.{Numbers}
-use Rattle.c_structs.specs.Crossed.{crossed}
+use Rattle.numbers.specs.declared.Numbers.{Numbers}
+use Rattle.numbers.specs.Numbers.{asNumbers}
 use Rattle.ascii_lines.specs.Ascii.{ascii}
 use Rattle.ascii_lines.specs.Numbers.{decimal, numbers, hexOrDash}
 
@@ -39,7 +39,7 @@ abbrev tenIn : Numbers → List ℕ
 tenIn c = c .packets ∷ c .first ∷ c .second ∷ c .third ∷ c .fourth ∷ c .fifth ∷ c .sixth ∷ c .seventh ∷ c .eighth ∷ c .ninth ∷ []
 
 abbrev pub tenOf : Message → List ℕ
-tenOf m = tenIn (crossed m)
+tenOf m = tenIn (asNumbers m)
 
 -- kind name, packets, fields in table order, text; `ws` are the message's words
 abbrev pub messageShown : Message → List ℕ → List ℕ

@@ -10,7 +10,7 @@ ghost use Rattle.ascii_lines.specs.Page.{Wrote};
 ghost use Rattle.ascii_lines.specs.Numbers.{numbers, hexOrDash};
 ghost use Rattle.listing.specs.Lines.{tenOf, messageShown};
 use crate::shown::put_shown;
-use c_structs::numbers::of_message;
+use numbers::of_record::numbers_of;
 use records::message::Message;
 
 // A name, and so many of a message's numbers: its packets, then its fields in the table's order.
@@ -18,7 +18,7 @@ fn put_fields(out: &mut [u8], at: usize, name: &[u8], message: Message, count: u
     requires { ⌜ count ≤ 10 ⌝ }
     ensures { λ r. ⌜ Wrote at (now (out .entry)) (now (name .entry) ++ numbers (take count (tenOf message))) r (now (out .exit)) ⌝ }
 {
-    let n = of_message(message);
+    let n = numbers_of(message);
     let ns = [
         n.packets as u64,
         n.first as u64,

@@ -14,7 +14,7 @@ use Rattle.utf8.specs.Utf8.{Valid, empty}
 use Rattle.text.specs.Octets.{needed}
 use Rattle.kinds.specs.declared.refusal.Refusal.the-variants.{NumberTooLarge, NoSuchField, NoRoom}
 use Rattle.kinds.specs.Fields.{Field, same}
-use Rattle.kinds.specs.Layout.{Body, fixed, texts, layout, mostIn, parts, held, valuesIn}
+use Rattle.kinds.specs.Layout.{Body, fixed, texts, layout, mostIn, parts, held, valuesIn, hasText}
 use Rattle.records.specs.declared.message.Message.{Message}
 use Rattle.records.specs.declared.message.Message.the-variants as M
 use Rattle.records.specs.declared.answers.Answer.the-variants as A
@@ -23,7 +23,7 @@ use Rattle.records.specs.Records.{kindIn, packetsIn, recordOf, valuesOf}
 use Rattle.records.proofs.Records.{record-back, refused-done, port-named, direction-named}
 use Rattle.standard.specs.Heads.{packetsOf}
 use Rattle.standard.specs.Reading.{valuesAt, readOf}
-use Rattle.standard.specs.Words.{Outcome, outcome, unchanged, noPacket, hasText, encode, writeOn}
+use Rattle.standard.specs.Words.{Outcome, outcome, unchanged, noPacket, encode, writeOn}
 use Rattle.standard.proofs.Formed.{read-formed}
 use Rattle.promises.specs.Good.{textFor, packetsFor, GoodValues}
 use Rattle.promises.specs.Values.{packetsNeeded, recordFor}

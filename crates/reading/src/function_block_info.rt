@@ -5,47 +5,15 @@
 ghost use mathlib.Core.Path.{_≡_};
 ghost use Prim.Native.Nat.{_≤_};
 ghost use lib.ListN.{length};
-ghost use Rattle.kinds.specs.Choices.{hintOf, portOf, directionOf};
 ghost use Rattle.kinds.specs.declared.kind.Kind.the-variants as K;
 ghost use Rattle.standard.specs.Reading.{messageAt, readBody};
-use kinds::choices::Direction;
-use kinds::choices::Midi1Port;
-use kinds::choices::UiHint;
+use kinds::choices::direction_of;
+use kinds::choices::hint_of;
+use kinds::choices::port_of;
 use kinds::refusal::Refusal;
 use records::answers::Read;
 use records::function_block_info::FunctionBlockInfo;
 use records::message::Message;
-
-pub fn ui_hint(code: u8) -> UiHint
-    ensures { λ r. ⌜ r ≡ hintOf code ⌝ }
-{
-    match code {
-        0 => UiHint::Undeclared,
-        1 => UiHint::Receiver,
-        2 => UiHint::Sender,
-        _ => UiHint::SenderReceiver,
-    }
-}
-
-pub fn midi1_port(code: u8) -> Midi1Port
-    ensures { λ r. ⌜ r ≡ portOf code ⌝ }
-{
-    match code {
-        0 => Midi1Port::None,
-        1 => Midi1Port::DontRestrictBandwidth,
-        _ => Midi1Port::RestrictBandwidth,
-    }
-}
-
-pub fn direction(code: u8) -> Direction
-    ensures { λ r. ⌜ r ≡ directionOf code ⌝ }
-{
-    match code {
-        1 => Direction::Input,
-        2 => Direction::Output,
-        _ => Direction::Bidirectional,
-    }
-}
 
 pub(crate) fn message(words: &[u32]) -> Message
     requires { ⌜ 4 ≤ length (now words) ⌝ }
@@ -56,9 +24,9 @@ pub(crate) fn message(words: &[u32]) -> Message
     Message::FunctionBlockInfo(FunctionBlockInfo {
         active: bit_ops::bit(a, 16),
         function_block_number: bit_ops::septet(a, 2),
-        ui_hint: ui_hint(bit_ops::crumb(a, 13)),
-        midi1_port: midi1_port(bit_ops::crumb(a, 14)),
-        direction: direction(bit_ops::crumb(a, 15)),
+        ui_hint: hint_of(bit_ops::crumb(a, 13)),
+        midi1_port: port_of(bit_ops::crumb(a, 14)),
+        direction: direction_of(bit_ops::crumb(a, 15)),
         first_group: bit_ops::nibble(b, 1),
         number_of_groups_spanned: bit_ops::octet(b, 1),
         midi_ci_version: bit_ops::octet(b, 2),

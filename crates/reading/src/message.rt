@@ -13,7 +13,6 @@ use crate::endpoint_info;
 use crate::endpoint_name;
 use crate::function_block_info;
 use crate::function_block_name;
-use crate::heads::kind_of;
 use crate::heads::status_of;
 use crate::one_pass::headed_packets;
 use crate::product_instance_id;
@@ -24,7 +23,7 @@ use kinds::kind::Kind;
 use kinds::kind::Known;
 use kinds::refusal::Refusal;
 use records::answers::Read;
-use text_check::good_text;
+use table::rows::kind_of;
 
 // A fixed kind is one packet, text at most 64.
 pub fn most_packets(kind: Kind) -> usize

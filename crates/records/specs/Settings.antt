@@ -16,8 +16,8 @@ use Rattle.records.specs.declared.answers.Answer.{Answer}
 use Rattle.records.specs.declared.answers.Answer.the-variants as A
 use Rattle.records.specs.declared.answers.Edited.{Edited}
 use Rattle.kinds.specs.Fields.{Number, Text, Field, Setting, fieldIn, valueIn, same}
-use Rattle.fields.specs.declared.NumberName.{NumberName}
-use Rattle.fields.specs.declared.NumberName.the-variants as N
+use Rattle.table.specs.declared.names.NumberName.{NumberName}
+use Rattle.table.specs.declared.names.NumberName.the-variants as N
 use Rattle.kinds.specs.Layout.{Part, layout, none, slotsOf, parts}
 use Rattle.records.specs.Records.{kindIn, packetsIn, recordOf, valuesOf}
 

@@ -6,7 +6,7 @@ use crate::answers::then;
 use crate::answers::too_large;
 use crate::message::Message;
 use crate::named::then_pair;
-use fields::PairName;
+use table::names::PairName;
 ghost use mathlib.Core.Path.{_≡_};
 ghost use mathlib.Core.Bool.{not};
 ghost use mathlib.Core.List.{[], _∷_};

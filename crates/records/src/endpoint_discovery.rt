@@ -4,7 +4,7 @@ use crate::answers::done;
 use crate::answers::no_such_field;
 use crate::message::Message;
 use crate::named::then_flag;
-use fields::FlagName;
+use table::names::FlagName;
 ghost use mathlib.Core.Path.{_≡_};
 ghost use Rattle.kinds.specs.Fields.{Flag, Setting};
 ghost use Rattle.records.specs.Settings.{setRecord, setEdited};

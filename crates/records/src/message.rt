@@ -1,13 +1,13 @@
 // The record of a message: it says its kind. Text is not in it: its bytes come from the words.
 ghost use mathlib.Core.Path.{_≡_};
 ghost use Rattle.counts.specs.Counts.{packet};
-ghost use Rattle.kinds.specs.Layout.{layout};
 ghost use Rattle.records.specs.Records.{kindIn, packetsIn};
 use crate::device_identity::DeviceIdentity;
 use crate::endpoint_discovery::EndpointDiscovery;
 use crate::endpoint_info::EndpointInfo;
 use crate::function_block_info::FunctionBlockInfo;
 use counts::PacketNumber;
+use kinds::kind::Kind;
 
 pub enum Message {
     EndpointDiscovery(EndpointDiscovery),
@@ -22,21 +22,21 @@ pub enum Message {
     },
 }
 
-// The status of a record's kind.
-pub fn status_in(message: Message) -> u32
-    ensures { λ r. ⌜ r ≡ layout (kindIn message) .status ⌝ }
+// What a record says it is.
+pub fn kind_in(message: Message) -> Kind
+    ensures { λ r. ⌜ r ≡ kindIn message ⌝ }
 {
     match message {
-        Message::EndpointDiscovery(_) => 0x00,
-        Message::EndpointInfo(_) => 0x01,
-        Message::DeviceIdentity(_) => 0x02,
-        Message::EndpointName(_) => 0x03,
-        Message::ProductInstanceId(_) => 0x04,
-        Message::FunctionBlockInfo(_) => 0x11,
+        Message::EndpointDiscovery(_) => Kind::EndpointDiscovery,
+        Message::EndpointInfo(_) => Kind::EndpointInfo,
+        Message::DeviceIdentity(_) => Kind::DeviceIdentity,
+        Message::EndpointName(_) => Kind::EndpointName,
+        Message::ProductInstanceId(_) => Kind::ProductInstanceId,
+        Message::FunctionBlockInfo(_) => Kind::FunctionBlockInfo,
         Message::FunctionBlockName {
             function_block: _,
             packets: _,
-        } => 0x12,
+        } => Kind::FunctionBlockName,
     }
 }
 

@@ -2,12 +2,12 @@
 use crate::answers::Edited;
 use crate::answers::then;
 use crate::message::Message;
-use fields::FlagName;
-use fields::NumberName;
-use fields::PairName;
+use table::names::FlagName;
+use table::names::NumberName;
+use table::names::PairName;
 ghost use mathlib.Core.Path.{_≡_};
 ghost use Rattle.kinds.specs.Fields.{Setting};
-ghost use Rattle.fields.specs.Named.{flagNamed, pairNamed};
+ghost use Rattle.table.specs.Named.{flagNamed, pairNamed};
 ghost use Rattle.records.specs.Settings.{numberIn, setRecord, setEdited};
 
 pub fn edit_flag(message: Message, flag: FlagName, on: bool) -> Edited

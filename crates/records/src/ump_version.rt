@@ -5,7 +5,7 @@ use crate::answers::no_such_field;
 use crate::answers::too_large;
 use crate::message::Message;
 use crate::named::then_number;
-use fields::NumberName;
+use table::names::NumberName;
 ghost use mathlib.Core.Path.{_≡_};
 ghost use Rattle.kinds.specs.Fields.{Setting};
 ghost use Rattle.records.specs.Records.{kindIn};

@@ -8,7 +8,7 @@ use lib.Dec.{ltb, leb}
 use borrow.Author.Tests.{lt-ltb, le-ltb, leb-true, leb-false}
 use Rattle.laws.specs.Pick.{pick, both}
 use Rattle.laws.proofs.Pick.{split, both-alone}
-use Rattle.slots.specs.Slots.{Slot, fits, those}
+use Rattle.slots.specs.Slots.{Slot, fits, those, bitsWithin}
 use Rattle.counts.specs.declared.PacketNumber.{PacketNumber}
 use Rattle.utf8.specs.Utf8.{firstBad}
 use Rattle.text.specs.Octets.{needed}
@@ -23,43 +23,45 @@ use Rattle.records.specs.Settings.{tooLarge}
 use Rattle.standard.specs.Heads.{packetsOf}
 use Rattle.standard.specs.Walk.{walkOf}
 use Rattle.standard.specs.Words.{outcome, unchanged, missing, answerTo, actIn, setOn}
-use Rattle.buffer.specs.Filling.{putIn, fillSeptets, areSeptets, putIns}
-use Rattle.buffer.proofs.Puts.{inWord, ins-put}
+use Rattle.buffer.specs.Filling.{putIns}
+use Rattle.table.specs.Places.{slotAt}
+use Rattle.numbers.specs.BySlot.{putSlot, fitFrom, putFrom}
+use Rattle.buffer.proofs.Puts.{ins-put}
 use Rattle.settings.specs.declared.target.Target.{Target}
 use Rattle.settings.specs.declared.target.Target.the-variants as T
 use Rattle.settings.specs.Target.{targetOf, settled}
-use Rattle.settings.specs.Fixed.{fitted, slotOn, septetsOn}
+use Rattle.settings.specs.Fixed.{fitted, slotOn, slotsOn}
 use Rattle.settings.proofs.Owned.{ownedBy, own-has, Own, set-refused, set-own}
 use Rattle.settings.proofs.Settled.{settled-refused, settled-own}
 
 -- ---- how the code reaches each case
-module _ (status word at span v : ℕ) (ws : List ℕ) where
-  pub slot-refused : {r : Refusal} → targetOf status (walkOf ws 0) ≡ T.Refused r → slotOn status word at span v ws ≡ unchanged r ws
+module _ (k : Kind) (i v : ℕ) (ws : List ℕ) where
+  pub slot-refused : {r : Refusal} → targetOf (layout k .status) (walkOf ws 0) ≡ T.Refused r → slotOn k i v ws ≡ unchanged r ws
   unfolding slotOn
   slot-refused e = settled-refused _ ws e
 
-  module _ {n : PacketNumber} (e : targetOf status (walkOf ws 0) ≡ T.Packets n) where
-    pub slot-large : leb (2 ^ span) v ≡ true → slotOn status word at span v ws ≡ unchanged NumberTooLarge ws
+  module _ {n : PacketNumber} (e : targetOf (layout k .status) (walkOf ws 0) ≡ T.Packets n) where
+    pub slot-large : leb (2 ^ slotAt (layout k .fields) i .span) v ≡ true → slotOn k i v ws ≡ unchanged NumberTooLarge ws
     unfolding slotOn
-    slot-large h = settled-own _ ws e ∙ rw (le-ltb v (2 ^ span) (leb-true (2 ^ span) v h))
+    slot-large h = settled-own _ ws e ∙ rw (le-ltb v (2 ^ slotAt (layout k .fields) i .span) (leb-true (2 ^ slotAt (layout k .fields) i .span) v h))
 
-    pub slot-done : leb (2 ^ span) v ≡ false → slotOn status word at span v ws ≡ outcome A.Done (putIn word at span v ws)
+    pub slot-done : leb (2 ^ slotAt (layout k .fields) i .span) v ≡ false → slotOn k i v ws ≡ outcome A.Done (putSlot (slotAt (layout k .fields) i) v ws)
     unfolding slotOn
-    slot-done h = settled-own _ ws e ∙ rw (lt-ltb v (2 ^ span) (leb-false (2 ^ span) v h))
+    slot-done h = settled-own _ ws e ∙ rw (lt-ltb v (2 ^ slotAt (layout k .fields) i .span) (leb-false (2 ^ slotAt (layout k .fields) i .span) v h))
 
-module _ (status word octet : ℕ) (xs ws : List ℕ) where
-  pub septets-refused : {r : Refusal} → targetOf status (walkOf ws 0) ≡ T.Refused r → septetsOn status word octet xs ws ≡ unchanged r ws
-  unfolding septetsOn
-  septets-refused e = settled-refused _ ws e
+module _ (k : Kind) (i : ℕ) (xs ws : List ℕ) where
+  pub slots-refused : {r : Refusal} → targetOf (layout k .status) (walkOf ws 0) ≡ T.Refused r → slotsOn k i xs ws ≡ unchanged r ws
+  unfolding slotsOn
+  slots-refused e = settled-refused _ ws e
 
-  module _ {n : PacketNumber} (e : targetOf status (walkOf ws 0) ≡ T.Packets n) where
-    pub septets-large : areSeptets xs ≡ false → septetsOn status word octet xs ws ≡ unchanged NumberTooLarge ws
-    unfolding septetsOn
-    septets-large h = settled-own _ ws e ∙ rw h
+  module _ {n : PacketNumber} (e : targetOf (layout k .status) (walkOf ws 0) ≡ T.Packets n) where
+    pub slots-large : fitFrom (layout k .fields) i xs ≡ false → slotsOn k i xs ws ≡ unchanged NumberTooLarge ws
+    unfolding slotsOn
+    slots-large h = settled-own _ ws e ∙ rw h
 
-    pub septets-set : areSeptets xs ≡ true → septetsOn status word octet xs ws ≡ outcome A.Done (fillSeptets word octet xs ws)
-    unfolding septetsOn
-    septets-set h = settled-own _ ws e ∙ rw h
+    pub slots-done : fitFrom (layout k .fields) i xs ≡ true → slotsOn k i xs ws ≡ outcome A.Done (putFrom (layout k .fields) i xs ws)
+    unfolding slotsOn
+    slots-done h = settled-own _ ws e ∙ rw h
 
 -- ---- what the table says of a setting and a kind, computed
 pub record Facts : Type 0 where
@@ -70,9 +72,9 @@ pub record Facts : Type 0 where
   pub text : List ℕ
 
 unfoldable pub facts : Kind → Setting → Facts
-unfolding layout those same decided partOf both everyKind ownedBy inWord
+unfolding layout those same decided partOf both everyKind ownedBy bitsWithin
 facts k s =
-    record { own = ownedBy k s; narrow = inWord (slotsOf (fieldIn s) (layout k .fields)); body = layout k .body; slots = slotsOf (fieldIn s) (layout k .fields); text = textIn s }
+    record { own = ownedBy k s; narrow = bitsWithin 32 (slotsOf (fieldIn s) (layout k .fields)); body = layout k .body; slots = slotsOf (fieldIn s) (layout k .fields); text = textIn s }
 
 -- a field of this kind alone, without text, in these slots
 abbrev pub plain : Body → List (Slot Part) → Facts
@@ -88,9 +90,9 @@ module _ (k : Kind) (s : Setting) (b : Body) (t : List (Slot Part)) (f : facts k
   unfolding facts
   is-own = ap (λ (x : Facts). x .own) f
 
-  pub is-narrow : inWord t ≡ true
+  pub is-narrow : bitsWithin 32 t ≡ true
   unfolding facts
-  is-narrow = ap inWord (sym (ap (λ (x : Facts). x .slots) f)) ∙ ap (λ (x : Facts). x .narrow) f
+  is-narrow = ap (bitsWithin 32) (sym (ap (λ (x : Facts). x .slots) f)) ∙ ap (λ (x : Facts). x .narrow) f
 
   pub is-body : layout k .body ≡ b
   unfolding facts
@@ -121,15 +123,15 @@ module _ (k : Kind) (s : Setting) (t : List (Slot Part)) (f : facts k s ≡ plai
   set-fixed (T.Refused r) e = set-refused k s (is-own k s fixed t f) ws e
   set-fixed (T.Packets n) e = own-fixed (n .0) (set-own k s (is-own k s fixed t f) ws e)
 
-  -- the numbers as septets
-  pub set-septets : (word octet : ℕ) (xs : List ℕ) → fits t (parts (λ f. valueIn s)) ≡ areSeptets xs → putIns t (parts (λ f. valueIn s)) ws ≡ fillSeptets word octet xs ws → setOn s ws ≡ septetsOn (layout k .status) word octet xs ws
-  unfolding septetsOn
-  set-septets word octet xs a p = rw (← a, ← p) (set-fixed _ refl)
+  -- the numbers in the slots from slot i on
+  pub set-slots : (i : ℕ) (xs : List ℕ) → fits t (parts (λ f. valueIn s)) ≡ fitFrom (layout k .fields) i xs → putIns t (parts (λ f. valueIn s)) ws ≡ putFrom (layout k .fields) i xs ws → setOn s ws ≡ slotsOn k i xs ws
+  unfolding slotsOn
+  set-slots i xs a p = rw (← a, ← p) (set-fixed _ refl)
 
 -- one number in one slot
-abbrev pub one : Setting → ℕ → ℕ → ℕ → List (Slot Part)
-one s word at span = record { word = word; at = at; span = span; key = record { field = fieldIn s; index = 0 } } ∷ []
+abbrev pub one : Kind → ℕ → List (Slot Part)
+one k i = slotAt (layout k .fields) i ∷ []
 
-pub set-slot : (k : Kind) (s : Setting) (word at span v : ℕ) → facts k s ≡ plain fixed (one s word at span) → partOf (fieldIn s) (valueIn s) 0 ≡ v → (ws : List ℕ) → setOn s ws ≡ slotOn (layout k .status) word at span v ws
+pub set-slot : (k : Kind) (s : Setting) (i v : ℕ) → facts k s ≡ plain fixed (one k i) → parts (λ f. valueIn s) (slotAt (layout k .fields) i .key) ≡ v → (ws : List ℕ) → setOn s ws ≡ slotOn k i v ws
 unfolding slotOn fits putIns
-set-slot k s word at span v f e ws = rw (← e, ← both-alone (ltb (partOf (fieldIn s) (valueIn s) 0) (2 ^ span))) (set-fixed k s (one s word at span) f ws _ refl)
+set-slot k s i v f e ws = rw (← e, ← both-alone (ltb (parts (λ f. valueIn s) (slotAt (layout k .fields) i .key)) (2 ^ slotAt (layout k .fields) i .span))) (set-fixed k s (one k i) f ws _ refl)

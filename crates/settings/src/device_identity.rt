@@ -1,24 +1,20 @@
 // Settings of device identity, status 0x02, on words.
-//
-// word 1: device_manufacturer octets 1, 2, 3
-// word 2: device_family octets 0, 1, device_family_model_number octets 2, 3, the low seven bits first
-// word 3: software_version octets 0, 1, 2, 3
-// Seven low bits of each octet.
 ghost use mathlib.Core.Path.{_≡_};
 ghost use Rattle.kinds.specs.Fields.{Pair, Setting};
 ghost use Rattle.standard.specs.Words.{setOn};
-use crate::fixed::set_septets;
+use crate::fixed::set_slots;
 use crate::named::set_pair;
-use fields::PairName;
+use kinds::kind::Kind;
 use records::answers::Answer;
-
-const STATUS: u32 = 0x02;
+use table::names::DEVICE_MANUFACTURER;
+use table::names::PairName;
+use table::names::SOFTWARE_VERSION;
 
 pub fn set_device_manufacturer(words: &mut [u32], a: u32, b: u32, c: u32) -> Answer
     ensures answer { λ r. ⌜ r ≡ setOn (Setting.device-manufacturer a b c) (now (words .entry)) .answer ⌝ }
     ensures buffer { λ r. ⌜ now (words .exit) ≡ setOn (Setting.device-manufacturer a b c) (now (words .entry)) .words ⌝ }
 {
-    set_septets(words, STATUS, 1, 1, &[a, b, c])
+    set_slots(words, Kind::DeviceIdentity, DEVICE_MANUFACTURER, &[a, b, c])
 }
 
 pub fn set_device_family(words: &mut [u32], family: u32) -> Answer
@@ -39,5 +35,5 @@ pub fn set_software_version(words: &mut [u32], a: u32, b: u32, c: u32, d: u32) -
     ensures answer { λ r. ⌜ r ≡ setOn (Setting.software-version a b c d) (now (words .entry)) .answer ⌝ }
     ensures buffer { λ r. ⌜ now (words .exit) ≡ setOn (Setting.software-version a b c d) (now (words .entry)) .words ⌝ }
 {
-    set_septets(words, STATUS, 3, 0, &[a, b, c, d])
+    set_slots(words, Kind::DeviceIdentity, SOFTWARE_VERSION, &[a, b, c, d])
 }

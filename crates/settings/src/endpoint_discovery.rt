@@ -1,16 +1,12 @@
 // Settings of endpoint discovery, status 0x00, on words.
-//
-// word 0: ump_version_major octet 2, ump_version_minor octet 3
-// word 1: request_endpoint_info bit 0, request_device_identity bit 1, request_endpoint_name bit 2,
-//         request_product_instance_id bit 3, request_stream_configuration bit 4
 ghost use mathlib.Core.Path.{_≡_};
 ghost use Rattle.kinds.specs.Fields.{Flag, Number, Setting};
 ghost use Rattle.standard.specs.Words.{setOn};
 use crate::named::set_flag;
 use crate::named::set_number;
-use fields::FlagName;
-use fields::NumberName;
 use records::answers::Answer;
+use table::names::FlagName;
+use table::names::NumberName;
 
 pub fn set_ump_version_major(words: &mut [u32], version: u32) -> Answer
     ensures answer { λ r. ⌜ r ≡ setOn (Setting.number Number.discovery-version-major version) (now (words .entry)) .answer ⌝ }

@@ -1,16 +1,12 @@
 // Settings of endpoint info, status 0x01, on words.
-//
-// word 0: ump_version_major octet 2, ump_version_minor octet 3
-// word 1: static_function_blocks bit 31, supports_midi2_protocol bit 9, supports_midi1_protocol bit 8,
-//         supports_receiving_jr_timestamps bit 1, supports_sending_jr_timestamps bit 0, number_of_function_blocks bits 30..24
 ghost use mathlib.Core.Path.{_≡_};
 ghost use Rattle.kinds.specs.Fields.{Flag, Number, Setting};
 ghost use Rattle.standard.specs.Words.{setOn};
 use crate::named::set_flag;
 use crate::named::set_number;
-use fields::FlagName;
-use fields::NumberName;
 use records::answers::Answer;
+use table::names::FlagName;
+use table::names::NumberName;
 
 pub fn set_ump_version_major(words: &mut [u32], version: u32) -> Answer
     ensures answer { λ r. ⌜ r ≡ setOn (Setting.number Number.info-version-major version) (now (words .entry)) .answer ⌝ }

@@ -1,55 +1,48 @@
-// Settings of fixed kinds: a number put into one slot, or numbers into the septets of a word.
+// Settings of fixed kinds by slot: one number, or several in slots one after another.
 ghost use mathlib.Core.Path.{_≡_};
-ghost use Rattle.settings.specs.Fixed.{slotOn, septetsOn};
+ghost use Rattle.settings.specs.Fixed.{slotOn, slotsOn};
 use crate::target::Target;
 use crate::target::find_target;
 use buffer::fields::put_field;
 use buffer::fields::too_large;
-use buffer::septets::are_septets;
-use buffer::septets::put_septets;
+use kinds::kind::Kind;
 use kinds::refusal::Refusal;
+use numbers::by_slot::numbers_fit;
+use numbers::by_slot::put_numbers;
 use records::answers::Answer;
+use table::places::place_of;
+use table::rows::row_of;
 
-// The refusals of the target, then 12; else the number is put into the `span` bits from bit `at` on.
-pub fn set_slot(
-    words: &mut [u32],
-    status: u32,
-    word: usize,
-    at: usize,
-    span: usize,
-    v: u32,
-) -> Answer
-    ensures answer { λ r. ⌜ r ≡ slotOn status word at span v (now (words .entry)) .answer ⌝ }
-    ensures buffer { λ r. ⌜ now (words .exit) ≡ slotOn status word at span v (now (words .entry)) .words ⌝ }
+// The refusals of the target, then 12; else the number is put.
+pub(crate) fn set_slot(words: &mut [u32], kind: Kind, slot: u8, v: u32) -> Answer
+    ensures answer { λ r. ⌜ r ≡ slotOn kind slot v (now (words .entry)) .answer ⌝ }
+    ensures buffer { λ r. ⌜ now (words .exit) ≡ slotOn kind slot v (now (words .entry)) .words ⌝ }
 {
-    match find_target(words, status) {
+    let row = row_of(kind);
+    match find_target(words, row.status) {
         Target::Refused(refusal) => Answer::Refused(refusal),
         Target::Packets(_) => {
-            if too_large(span, v) {
+            let place = place_of(kind, slot as usize);
+            if too_large(place.2, v) {
                 return Answer::Refused(Refusal::NumberTooLarge);
             }
-            put_field(words, word, at, span, v);
+            put_field(words, place.0, place.1, place.2, v);
             Answer::Done
         }
     }
 }
 
-// The refusals of the target, then 12; else the numbers are put into the septets of a word, from one octet on.
-pub fn set_septets(
-    words: &mut [u32],
-    status: u32,
-    word: usize,
-    octet: usize,
-    numbers: &[u32],
-) -> Answer
-    ensures answer { λ r. ⌜ r ≡ septetsOn status word octet (now (numbers .entry)) (now (words .entry)) .answer ⌝ }
-    ensures buffer { λ r. ⌜ now (words .exit) ≡ septetsOn status word octet (now (numbers .entry)) (now (words .entry)) .words ⌝ }
+// The same for several numbers, the first in slot `first`.
+pub(crate) fn set_slots(words: &mut [u32], kind: Kind, first: u8, numbers: &[u32]) -> Answer
+    ensures answer { λ r. ⌜ r ≡ slotsOn kind first (now (numbers .entry)) (now (words .entry)) .answer ⌝ }
+    ensures buffer { λ r. ⌜ now (words .exit) ≡ slotsOn kind first (now (numbers .entry)) (now (words .entry)) .words ⌝ }
 {
-    match find_target(words, status) {
+    let row = row_of(kind);
+    match find_target(words, row.status) {
         Target::Refused(refusal) => Answer::Refused(refusal),
         Target::Packets(_) => {
-            if are_septets(numbers) {
-                put_septets(words, word, octet, numbers);
+            if numbers_fit(kind, first, numbers) {
+                put_numbers(words, kind, first, numbers);
                 return Answer::Done;
             }
             Answer::Refused(Refusal::NumberTooLarge)

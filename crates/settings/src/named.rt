@@ -1,32 +1,34 @@
 // Settings of a flag, a number or a pair of a fixed kind by its name, on words.
 ghost use mathlib.Core.Path.{_≡_};
 ghost use Rattle.kinds.specs.Fields.{Setting};
-ghost use Rattle.fields.specs.Named.{flagNamed, numberNamed, pairNamed};
+ghost use Rattle.table.specs.Named.{flagNamed, numberNamed, pairNamed};
 ghost use Rattle.standard.specs.Words.{setOn};
-use crate::fixed::set_septets;
 use crate::fixed::set_slot;
-use fields::FlagName;
-use fields::NumberName;
-use fields::PairName;
-use fields::flag_home;
-use fields::number_home;
-use fields::pair_home;
+use crate::fixed::set_slots;
 use records::answers::Answer;
+use table::names::FlagName;
+use table::names::NumberName;
+use table::names::PairName;
+use table::names::flag_at;
+use table::names::number_at;
+use table::names::pair_at;
 
 pub fn set_flag(words: &mut [u32], flag: FlagName, on: bool) -> Answer
     ensures answer { λ r. ⌜ r ≡ setOn (Setting.flag (flagNamed flag) on) (now (words .entry)) .answer ⌝ }
     ensures buffer { λ r. ⌜ now (words .exit) ≡ setOn (Setting.flag (flagNamed flag) on) (now (words .entry)) .words ⌝ }
 {
-    let home = flag_home(flag);
-    set_slot(words, home.0, home.1, home.2, home.3, on as u32)
+    let at = flag_at(flag);
+    let kind = at.0;
+    set_slot(words, kind, at.1, on as u32)
 }
 
 pub fn set_number(words: &mut [u32], number: NumberName, x: u32) -> Answer
     ensures answer { λ r. ⌜ r ≡ setOn (Setting.number (numberNamed number) x) (now (words .entry)) .answer ⌝ }
     ensures buffer { λ r. ⌜ now (words .exit) ≡ setOn (Setting.number (numberNamed number) x) (now (words .entry)) .words ⌝ }
 {
-    let home = number_home(number);
-    set_slot(words, home.0, home.1, home.2, home.3, x)
+    let at = number_at(number);
+    let kind = at.0;
+    set_slot(words, kind, at.1, x)
 }
 
 // The low seven bits first.
@@ -34,6 +36,7 @@ pub fn set_pair(words: &mut [u32], pair: PairName, x: u32) -> Answer
     ensures answer { λ r. ⌜ r ≡ setOn (Setting.pair (pairNamed pair) x) (now (words .entry)) .answer ⌝ }
     ensures buffer { λ r. ⌜ now (words .exit) ≡ setOn (Setting.pair (pairNamed pair) x) (now (words .entry)) .words ⌝ }
 {
-    let home = pair_home(pair);
-    set_septets(words, home.0, home.1, home.2, &[x % 128, x / 128])
+    let at = pair_at(pair);
+    let kind = at.0;
+    set_slots(words, kind, at.1, &[x % 128, x / 128])
 }

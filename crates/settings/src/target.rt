@@ -7,8 +7,9 @@ use counts::WordNumber;
 use kinds::refusal::Refusal;
 use records::answers::Walked;
 use records::message::Message;
+use records::message::kind_in;
 use records::message::packets_in;
-use records::message::status_in;
+use table::rows::row_of;
 
 pub enum Target {
     // So many packets of the setting's kind.
@@ -20,7 +21,8 @@ pub enum Target {
 fn own_message(message: Message, status: u32) -> Target
     ensures { λ r. ⌜ r ≡ ownIn status message ⌝ }
 {
-    if status_in(message) != status {
+    let row = row_of(kind_in(message));
+    if row.status != status {
         return Target::Refused(Refusal::NoSuchField);
     }
     Target::Packets(packets_in(message))

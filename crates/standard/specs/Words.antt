@@ -21,7 +21,7 @@ use Rattle.records.specs.declared.answers.Walked.the-variants as W
 use Rattle.records.specs.declared.answers.Answer.{Answer}
 use Rattle.records.specs.declared.answers.Answer.the-variants as A
 use Rattle.kinds.specs.Fields.{Field, Setting, fieldIn, valueIn, textIn, start}
-use Rattle.kinds.specs.Layout.{Part, Body, fixed, texts, Row, layout, capacityIn, kindOf, slotsOf, isText, parts, valuesIn}
+use Rattle.kinds.specs.Layout.{Part, Body, fixed, texts, Row, layout, capacityIn, kindOf, hasText, slotsOf, isText, parts, valuesIn}
 use Rattle.records.specs.Records.{kindIn, packetsIn, valuesOf}
 use Rattle.records.specs.Settings.{lacks, tooLarge}
 use Rattle.standard.specs.Heads.{headWord, packetsOf}
@@ -133,11 +133,7 @@ unfoldable pub setOn : Setting → List ℕ → Outcome
 setOn s ws = setWalked (walkOf ws 0) s ws
 
 -- ---- writing a record of a fixed kind
-abbrev pub hasText : Body → Bool
-hasText fixed = false
-hasText (texts t from) = true
-
--- refusal 13 for a text kind, then 12 and 14; otherwise a fresh message with the record's fields
+-- refusals 13 for a text kind, 12, 14; else the fresh message with the record's fields
 unfoldable pub writeOn : Message → List ℕ → Outcome
 writeOn m ws =
     pick (hasText (layout (kindIn m) .body)) (unchanged NoSuchField ws)

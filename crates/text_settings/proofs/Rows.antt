@@ -2,7 +2,7 @@
 use Prim.Native.Nat.{ℕ, _+_, _-_, _^_, _<_, _≤_}
 use mathlib.Core.Path.{_≡_, refl, sym, ap, _∙_, fun-ext}
 use mathlib.Core.Bool.{Bool, true, false, not}
-use mathlib.Core.List.{List, []}
+use mathlib.Core.List.{List, [], _∷_}
 use native.Mathlib.Omega.{arith}
 use lib.ListN.{length}
 use lib.Dec.{ltb}
@@ -10,7 +10,7 @@ use borrow.Author.Tests.{ltb-true, ltb-false, leb-true}
 use Rattle.laws.specs.Pick.{pick, both}
 use Rattle.laws.specs.Bits.{putField}
 use Rattle.laws.proofs.Pick.{split, both-left}
-use Rattle.slots.specs.Slots.{Slot, put, putAll, fits, those}
+use Rattle.slots.specs.Slots.{Slot, put, putAll, fits, those, bitsWithin}
 use Rattle.utf8.specs.Utf8.{firstBad}
 use Rattle.text.specs.Octets.{needed}
 use Rattle.kinds.specs.declared.kind.Kind.{Kind}
@@ -25,13 +25,13 @@ use Rattle.standard.specs.Reading.{isBad}
 use Rattle.standard.specs.Walk.{walkOf}
 use Rattle.standard.specs.Words.{outcome, missing, answerTo, actIn, putWord, headOf, setOn}
 use Rattle.buffer.specs.Filling.{putEach, formatted, fillText}
-use Rattle.buffer.proofs.Puts.{inWord, each-put, text-filled}
+use Rattle.buffer.proofs.Puts.{each-put, text-filled}
 use Rattle.settings.specs.declared.target.Target.{Target}
 use Rattle.settings.specs.declared.target.Target.the-variants as T
 use Rattle.settings.specs.Target.{targetOf, settled}
 use Rattle.settings.specs.Fixed.{fitted}
 use Rattle.settings.proofs.Owned.{ownedBy, own-has, Own, set-refused, set-own}
-use Rattle.settings.proofs.Slots.{facts, plain, one, is-own, is-narrow, is-body, are-slots, answer-is}
+use Rattle.settings.proofs.Slots.{facts, plain, is-own, is-narrow, is-body, are-slots, answer-is}
 use Rattle.text_settings.specs.Texts.{roomOf, planOf, carried, textOn, eachOn}
 
 -- ---- what the table says of a text and a kind, computed
@@ -106,6 +106,9 @@ module _ (k : Kind) (t : Text) (offset head : ℕ) (bytes ws : List ℕ) (f : te
         go (T.Packets n) e = own-text (n .0) (set-own k (Setting.text t bytes) owned ws e)
 
 -- ---- A NUMBER IN EACH HEAD
+abbrev one : Setting → ℕ → ℕ → ℕ → List (Slot Part)
+one s word at span = record { word = word; at = at; span = span; key = record { field = fieldIn s; index = 0 } } ∷ []
+
 put-one : (s : Setting) (at span v : ℕ) → partOf (fieldIn s) (valueIn s) 0 ≡ v → (w : ℕ) → putWord (one s 0 at span) (parts (λ f. valueIn s)) w ≡ putField w at span v
 unfolding putWord putAll put
 put-one s at span v e w = rw (← e)
@@ -118,8 +121,8 @@ fits-one s at span v e = rw e (alone (ltb v (2 ^ span)))
     alone true = refl
     alone false = refl
 
-narrow-one : (s : Setting) (at span : ℕ) → inWord (one s 0 at span) ≡ true → at + span ≤ 32
-unfolding inWord
+narrow-one : (s : Setting) (at span : ℕ) → bitsWithin 32 (one s 0 at span) ≡ true → at + span ≤ 32
+unfolding bitsWithin
 narrow-one s at span e = leb-true _ _ (both-left _ _ e)
 
 module _ (k : Kind) (s : Setting) (t : Text) (from at span v : ℕ) (f : facts k s ≡ plain (texts t from) (one s 0 at span)) (e : partOf (fieldIn s) (valueIn s) 0 ≡ v) (ws : List ℕ) (other : same (fieldIn s) (Field.text t) ≡ false) where

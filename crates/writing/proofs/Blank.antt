@@ -1,5 +1,5 @@
 -- A fresh message is the buffer cleared, with one head. Closed by taking the first packet off; the table is computed over it.
-use Prim.Native.Nat.{ℕ, suc, _*_, _/_, _≤_, _<_}
+use Prim.Native.Nat.{ℕ, suc, _+_, _*_, _/_, _≤_, _<_}
 use mathlib.Core.Path.{_≡_, refl, sym, ap, _∙_, fun-ext}
 use mathlib.Core.List.{List, [], _∷_}
 use native.Mathlib.Omega.{arith}
@@ -16,6 +16,7 @@ use Rattle.kinds.specs.declared.kind.Known.the-variants.{Is, Unknown}
 use Rattle.kinds.specs.declared.refusal.Refusal.the-variants.{UnknownStatus, NoRoom}
 use Rattle.kinds.specs.Fields.{start, partOf}
 use Rattle.kinds.specs.Layout.{layout, kindOf, parts}
+use Rattle.table.specs.Rows.{tableRow}
 use Rattle.records.specs.declared.answers.Answer.the-variants as A
 use Rattle.standard.specs.Heads.{headWord}
 use Rattle.standard.specs.Words.{outcome, unchanged, putWord, headOf, fresh, freshOn}
@@ -52,6 +53,17 @@ unfolding fresh
 fresh-blank k ws h =
     let o = opened ws h in
     ap (putAll (layout k .fields) (parts start)) (o .is (headWord (layout k .status) 0)) ∙ start-put k (o .rest) ∙ sym (o .is (headOf (layout k) start 0))
+
+-- the head as the code puts it together
+pub head-row : (k : Kind) → headWord (layout k .status) 0 + tableRow k .start ≡ headOf (layout k) start 0
+unfolding layout start partOf putWord put putAll
+head-row K.EndpointDiscovery = refl
+head-row K.EndpointInfo = refl
+head-row K.DeviceIdentity = refl
+head-row K.EndpointName = refl
+head-row K.ProductInstanceId = refl
+head-row K.FunctionBlockInfo = refl
+head-row K.FunctionBlockName = refl
 
 -- ---- how the code reaches each case
 module _ (status : ℕ) (ws : List ℕ) where

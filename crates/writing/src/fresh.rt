@@ -7,22 +7,17 @@ use buffer::packets::clear;
 use kinds::kind::Kind;
 use kinds::kind::Known;
 use kinds::refusal::Refusal;
-use reading::heads::kind_of;
 use records::answers::Answer;
+use table::rows::head_of;
+use table::rows::kind_of;
+use table::rows::row_of;
 
-// The first word.
+// The first word: type, Complete, status, and the fields that do not start with 0.
 fn fresh_head(kind: Kind) -> u32
     ensures { λ r. ⌜ r ≡ headOf (layout kind) start 0 ⌝ }
 {
-    match kind {
-        Kind::EndpointDiscovery => 0xF000_0000,
-        Kind::EndpointInfo => 0xF001_0000,
-        Kind::DeviceIdentity => 0xF002_0000,
-        Kind::EndpointName => 0xF003_0000,
-        Kind::ProductInstanceId => 0xF004_0000,
-        Kind::FunctionBlockInfo => 0xF011_0003,
-        Kind::FunctionBlockName => 0xF012_0000,
-    }
+    let row = row_of(kind);
+    head_of(kind) + row.start
 }
 
 // Refusals 5, then 14.

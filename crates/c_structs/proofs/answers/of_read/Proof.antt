@@ -4,7 +4,7 @@ use Rattle.c_structs.proofs.answers.of_read.Statement.{statement}
 use Rattle.c_structs.proofs.answers.of_read.Tie as tie
 
 returns : tie.Need-returns
-returns c = rw (c .before .before .read .given .1, c .of-message .ensures)
+returns c = rw (c .before .before .read .given .1, c .numbers-of .ensures)
 
 returns-2 : tie.Need-returns-2
 returns-2 c = rw (c .before .before .before .read2 .given .1, c .refused-record .ensures, c .before .no-numbers .ensures)

@@ -10,7 +10,7 @@ returns-2 : tie.Need-returns-2
 returns-2 c = rw (c .before .before .walked .given .1, c .no-numbers2 .ensures)
 
 returns-3 : tie.Need-returns-3
-returns-3 c = rw (c .before .before .walked2 .given .1, c .of-message .ensures)
+returns-3 c = rw (c .before .before .walked2 .given .1, c .numbers-of .ensures)
 
 returns-4 : tie.Need-returns-4
 returns-4 c = rw (c .before .before .before .before .walked3 .given .1, c .before .before .refusal-number .ensures, c .before .refusal-place .ensures, c .no-numbers3 .ensures)

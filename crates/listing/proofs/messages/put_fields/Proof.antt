@@ -18,4 +18,4 @@ put-fields-spec =
     (λ c. omega (arith, c .before .before .before .before .before .before .before .before .before .before .before .before .before .pre))
     (λ c. sym (length-take-le _ _ (c .before .before .before .before .before .before .before .before .before .before .before .before .before .before .pre)))
     (λ c κs. search needs) (λ c. search needs)
-    (λ c. says (c .before .before .put-named .ensures) (rw (c .before .before .before .before .before .before .before .before .before .before .before .before .before .before .of-message .ensures))))
+    (λ c. says (c .before .before .put-named .ensures) (rw (c .before .before .before .before .before .before .before .before .before .before .before .before .before .before .numbers-of .ensures))))

@@ -11,7 +11,7 @@ use Rattle.reading.proofs.function_block_info.message.Tie as tie
 
 returns : tie.Need-returns
 unfolding recordOf valuesIn layout those map held joined same decided get partIn
-returns c = rw (c .before .before .before .before .before .before .before .before .before .before .before .bit .ensures, c .before .before .before .before .before .before .before .before .before .before .septet .ensures, c .before .before .before .before .before .before .before .before .ui-hint .ensures, c .before .before .before .before .before .before .before .before .before .crumb .ensures, c .before .before .before .before .before .before .midi1-port .ensures, c .before .before .before .before .before .before .before .crumb2 .ensures, c .before .before .before .before .direction .ensures, c .before .before .before .before .before .crumb3 .ensures, c .before .before .before .nibble .ensures, c .before .before .octet .ensures, c .before .octet2 .ensures, c .octet3 .ensures)
+returns c = rw (c .before .before .before .before .before .before .before .before .before .before .before .bit .ensures, c .before .before .before .before .before .before .before .before .before .before .septet .ensures, c .before .before .before .before .before .before .before .before .hint-of .ensures, c .before .before .before .before .before .before .before .before .before .crumb .ensures, c .before .before .before .before .before .before .port-of .ensures, c .before .before .before .before .before .before .before .crumb2 .ensures, c .before .before .before .before .direction-of .ensures, c .before .before .before .before .before .crumb3 .ensures, c .before .before .before .nibble .ensures, c .before .before .octet .ensures, c .before .octet2 .ensures, c .octet3 .ensures)
 
 pub message-spec : {M : Type 1} → statement M
 message-spec =

@@ -2,16 +2,17 @@
 use mathlib.Core.Path.{refl}
 use Rattle.slots.specs.Slots.{fits}
 use Rattle.kinds.specs.declared.kind.Kind.the-variants as K
-use Rattle.buffer.specs.Filling.{putSeptets, fillSeptets, areSeptets, putIns}
-use Rattle.settings.proofs.Slots.{facts, set-septets}
+use Rattle.buffer.specs.Filling.{putIns}
+use Rattle.numbers.specs.BySlot.{fitFrom, putFrom}
+use Rattle.settings.proofs.Slots.{facts, set-slots}
 use borrow.Author.Needs.{needs}
 use Rattle.standard.proofs.Outcome.{said-as}
 use Rattle.settings.proofs.device_identity.set_software_version.Statement.{statement}
 use Rattle.settings.proofs.device_identity.set_software_version.Tie as tie
 
 returns : tie.Need-returns
-unfolding facts fits putIns putSeptets fillSeptets areSeptets
-returns c = said-as (set-septets K.DeviceIdentity _ _ refl _ _ _ _ refl refl) (c .before .before .set-septets .ensures)
+unfolding facts fits putIns fitFrom putFrom
+returns c = said-as (set-slots K.DeviceIdentity _ _ refl _ _ _ refl refl) (c .before .before .set-slots .ensures)
 
 pub set-software-version-spec : {M : Type 1} → statement M
 set-software-version-spec =

@@ -9,7 +9,7 @@ use Rattle.settings.proofs.function_block_info.set_midi1_port.Tie as ti
 
 returns : tie.Need-returns
 unfolding facts
-returns c = said-as (set-slot K.FunctionBlockInfo _ _ _ _ _ refl refl _) (rw (c .before .before .before .port-code .ensures) at (c .before .before .set-slot .ensures))
+returns c = said-as (set-slot K.FunctionBlockInfo _ _ _ refl refl _) (rw (c .before .before .before .port-code .ensures) at (c .before .before .set-slot .ensures))
 
 pub set-midi1-port-spec : {M : Type 1} → statement M
 set-midi1-port-spec =

@@ -11,4 +11,4 @@ set-flag-spec =
     tie.close
     (tie.spec
     (λ c κs. search needs) (λ c. search needs) (λ c κs. search needs) (λ c. search needs)
-    (λ c. said-as (flag-put (c .before .before .before .before .before .before .args .flag) (c .before .before .before .before .before .before .args .on) _ (c .before .before .before .before .flag-home .ensures)) (rw bit-byte at (c .before .before .set-slot .ensures))))
+    (λ c. said-as (flag-put (c .before .before .before .before .before .before .args .flag) (c .before .before .before .before .before .before .args .on) _ (c .before .before .before .before .flag-at .ensures)) (rw bit-byte at (c .before .before .set-slot .ensures))))

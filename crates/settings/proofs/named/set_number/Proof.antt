@@ -10,4 +10,4 @@ set-number-spec =
     tie.close
     (tie.spec
     (λ c κs. search needs) (λ c κs. search needs) (λ c. search needs)
-    (λ c. said-as (number-put (c .before .before .before .before .before .before .args .number) _ _ (c .before .before .before .before .number-home .ensures)) (c .before .before .set-slot .ensures)))
+    (λ c. said-as (number-put (c .before .before .before .before .before .before .args .number) _ _ (c .before .before .before .before .number-at .ensures)) (c .before .before .set-slot .ensures)))

@@ -10,4 +10,4 @@ set-pair-spec =
     tie.close
     (tie.spec
     (λ c κs. search needs) (λ c. search needs) (λ c κs. search needs) (λ c. search needs)
-    (λ c. said-as (pair-put (c .before .before .before .before .before .before .before .args .pair) _ _ (c .before .before .before .before .before .pair-home .ensures)) (c .before .before .set-septets .ensures)))
+    (λ c. said-as (pair-put (c .before .before .before .before .before .before .before .args .pair) _ _ (c .before .before .before .before .before .pair-at .ensures)) (c .before .before .set-slots .ensures)))

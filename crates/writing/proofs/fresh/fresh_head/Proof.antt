@@ -1,44 +1,15 @@
--- `fresh::fresh_head` meets its contract, by its definition.
-use Rattle.slots.specs.Slots.{put, putAll}
-use Rattle.kinds.specs.Fields.{start, partOf}
-use Rattle.kinds.specs.Layout.{layout}
-use Rattle.standard.specs.Words.{putWord}
+-- `fresh::fresh_head` meets its contract, by the row of the kind.
+use native.Mathlib.Omega.{arith}
+use Rattle.table.proofs.RowLaws.{row-small}
+use Rattle.writing.proofs.Blank.{head-row}
 use borrow.Author.Needs.{needs}
 use Rattle.writing.proofs.fresh.fresh_head.Statement.{statement}
 use Rattle.writing.proofs.fresh.fresh_head.Tie as tie
-
-returns : tie.Need-returns
-unfolding layout start partOf putWord put putAll
-returns c = rw (c .enum-told .given .1)
-
-returns-2 : tie.Need-returns-2
-unfolding layout start partOf putWord put putAll
-returns-2 c = rw (c .enum-told2 .given .1)
-
-returns-3 : tie.Need-returns-3
-unfolding layout start partOf putWord put putAll
-returns-3 c = rw (c .enum-told3 .given .1)
-
-returns-4 : tie.Need-returns-4
-unfolding layout start partOf putWord put putAll
-returns-4 c = rw (c .enum-told4 .given .1)
-
-returns-5 : tie.Need-returns-5
-unfolding layout start partOf putWord put putAll
-returns-5 c = rw (c .enum-told5 .given .1)
-
-returns-6 : tie.Need-returns-6
-unfolding layout start partOf putWord put putAll
-returns-6 c = rw (c .enum-told6 .given .1)
-
-returns-7 : tie.Need-returns-7
-unfolding layout start partOf putWord put putAll
-returns-7 c = rw (c .enum-told7 .given .1)
 
 pub fresh-head-spec : {M : Type 1} → statement M
 fresh-head-spec =
     tie.close
     (tie.spec
-    (λ c. search needs) (λ c. search needs) (λ c. search needs) (λ c. search needs)
-    (λ c. search needs) (λ c. search needs) (λ c. search needs) returns returns-2 returns-3
-    returns-4 returns-5 returns-6 returns-7)
+    (λ c κs. search needs) (λ c κs. search needs)
+    (λ c. let s = row-small (c .before .before .before .args .kind) in omega (arith, s .status, s .start, c .before .before .row-of .ensures .start, c .before .head-of .ensures))
+    (λ c. rw (c .before .head-of .ensures, c .before .before .row-of .ensures .start) (head-row (c .before .before .before .args .kind))))

@@ -1,42 +1,20 @@
 -- `write::write` meets its contract, by the laws of `Cases` and `Left` of standard.
-use mathlib.Core.Path.{refl}
-use Rattle.kinds.specs.Layout.{layout}
-use Rattle.writing.proofs.Cases.{write-text}
-use borrow.Author.Needs.{needs}
+use mathlib.Core.Path.{sym, _∙_}
+use borrow.Author.Tests.{lt-ltb, le-ltb}
 use Rattle.standard.proofs.Outcome.{said}
+use Rattle.writing.proofs.Cases.{write-text, fixed-kind, text-told, fits-told, write-large, write-short, write-done}
+use borrow.Author.Needs.{needs}
 use Rattle.writing.proofs.write.write.Statement.{statement}
 use Rattle.writing.proofs.write.write.Tie as tie
-
-returns : tie.Need-returns
-returns c = rw (c .before .before .before .before .before .message .given .1) (c .before .before .write .ensures)
-
-returns-2 : tie.Need-returns-2
-returns-2 c = rw (c .before .before .before .before .before .message2 .given .1) (c .before .before .write2 .ensures)
-
-returns-3 : tie.Need-returns-3
-returns-3 c = rw (c .before .before .before .before .before .message3 .given .1) (c .before .before .write3 .ensures)
-
-returns-4 : tie.Need-returns-4
-returns-4 c = rw (c .before .before .before .before .before .message4 .given .1) (c .before .before .write4 .ensures)
-
-returns-5 : tie.Need-returns-5
-unfolding layout
-returns-5 c = rw (c .enum-told .given .1) (said (write-text _ _ refl))
-
-returns-6 : tie.Need-returns-6
-unfolding layout
-returns-6 c = rw (c .enum-told2 .given .1) (said (write-text _ _ refl))
-
-returns-7 : tie.Need-returns-7
-unfolding layout
-returns-7 c = rw (c .enum-told3 .given .1) (said (write-text _ _ refl))
 
 pub write-spec : {M : Type 1} → statement M
 write-spec =
     tie.close
     (tie.spec
-    (λ c. search needs) (λ c κs. search needs) (λ c. search needs) (λ c κs. search needs)
-    (λ c. search needs) (λ c κs. search needs) (λ c. search needs) (λ c κs. search needs)
-    (λ c. search needs) (λ c. search needs) (λ c. search needs) (λ c. search needs) returns
-    (λ c. search needs) returns-2 (λ c. search needs) returns-3 (λ c. search needs) returns-4
-    returns-5 returns-6 returns-7)
+    (λ c κs. search needs) (λ c κs. search needs)
+    (λ c. said (write-text (c .before .before .before .before .before .args .message) _ (sym (text-told (c .before .before .before .before .before .args .message) (c .before .before .before .kind-in .ensures) (c .before .before .row-of .ensures)) ∙ lt-ltb 1 _ (c .if1 .taken))))
+    (λ c κs. search needs) (λ c κs. search needs)
+    (λ c. said (write-short (fixed-kind (c .before .before .before .before .before .before .before .before .before .args .message) (sym (text-told (c .before .before .before .before .before .before .before .before .before .args .message) (c .before .before .before .before .before .before .before .kind-in .ensures) (c .before .before .before .before .before .before .row-of .ensures)) ∙ le-ltb 1 _ (c .before .before .before .before .if1 .left))) _ (fits-told (c .before .before .before .before .before .before .before .before .before .args .message) (c .before .before .before .before .before .before .before .kind-in .ensures) (c .before .before .before .numbers-of .ensures) (c .before .before .slots-fit .ensures) (c .before .if2 .taken)) (c .if3 .taken)))
+    (λ c κs. search needs) (λ c. search needs)
+    (λ c. rw (c .before .before .put-record .ensures) (said (write-done (fixed-kind (c .before .before .before .before .before .before .before .before .before .before .before .before .before .args .message) (sym (text-told (c .before .before .before .before .before .before .before .before .before .before .before .before .before .args .message) (c .before .before .before .before .before .before .before .before .before .before .before .kind-in .ensures) (c .before .before .before .before .before .before .before .before .before .before .row-of .ensures)) ∙ le-ltb 1 _ (c .before .before .before .before .before .before .before .before .if1 .left))) _ (fits-told (c .before .before .before .before .before .before .before .before .before .before .before .before .before .args .message) (c .before .before .before .before .before .before .before .before .before .before .before .kind-in .ensures) (c .before .before .before .before .before .before .before .numbers-of .ensures) (c .before .before .before .before .before .before .slots-fit .ensures) (c .before .before .before .before .before .if2 .taken)) (c .before .before .before .before .if3 .left))))
+    (λ c. said (write-large (fixed-kind (c .before .before .before .before .before .before .before .before .args .message) (sym (text-told (c .before .before .before .before .before .before .before .before .args .message) (c .before .before .before .before .before .before .kind-in .ensures) (c .before .before .before .before .before .row-of .ensures)) ∙ le-ltb 1 _ (c .before .before .before .if1 .left))) _ (fits-told (c .before .before .before .before .before .before .before .before .args .message) (c .before .before .before .before .before .before .kind-in .ensures) (c .before .before .numbers-of .ensures) (c .before .slots-fit .ensures) (c .if2 .left)))))

@@ -1,3 +1,0 @@
-pub mod Within
-pub mod Accepted
-pub mod Back

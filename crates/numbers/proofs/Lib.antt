@@ -1,0 +1,4 @@
+pub mod BySlot
+pub mod Accepted
+pub mod Computed
+pub mod Back

@@ -1,0 +1,21 @@
+-- `of_record::of_endpoint_info` meets its contract, by the laws of `Numbers` of records.
+use Rattle.records.proofs.Numbers.{info-numbers}
+use Rattle.bit_ops.proofs.Parts.{bit-byte}
+use borrow.Author.Needs.{needs}
+use Rattle.numbers.proofs.of_record.of_endpoint_info.Statement.{statement}
+use Rattle.numbers.proofs.of_record.of_endpoint_info.Tie as tie
+
+pub of-endpoint-info-spec : {M : Type 1} → statement M
+of-endpoint-info-spec =
+    tie.close
+    (tie.spec
+    (λ c. search needs)
+    (λ c. search needs)
+    (λ c. search needs)
+    (λ c. search needs)
+    (λ c. search needs)
+    (λ c. search needs)
+    (λ c. search needs)
+    (λ c. search needs)
+    (λ c κs. search needs)
+    (λ c. rw (c .of-kind .ensures, info-numbers _, bit-byte _, bit-byte _, bit-byte _, bit-byte _, bit-byte _)))

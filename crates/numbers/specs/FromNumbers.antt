@@ -1,0 +1,73 @@
+-- A RECORD FROM ITS NUMBERS: what was given may be no record, and is then refused.
+use Prim.Native.Nat.{ℕ, _/_, _%_}
+use mathlib.Core.Path.{_≡_}
+use mathlib.Core.Bool.{true, not}
+use mathlib.Core.List.{List, [], _∷_, _++_}
+use lib.ListN.{length, getD, take, drop}
+use lib.Dec.{eqb}
+use Rattle.laws.specs.Pick.{pick}
+use Rattle.laws.specs.Lists.{each}
+use Rattle.slots.specs.Slots.{fits}
+use Rattle.kinds.specs.declared.kind.Kind.{Kind}
+use Rattle.kinds.specs.declared.kind.Kind.the-variants as K
+use Rattle.kinds.specs.declared.kind.Known.{Known}
+use Rattle.kinds.specs.declared.kind.Known.the-variants.{Is, Unknown}
+use Rattle.kinds.specs.declared.refusal.Refusal.the-variants.{UnknownStatus, BadPort, BadDirection, NumberTooLarge}
+use Rattle.kinds.specs.Choices.{noPort, noDirection}
+use Rattle.kinds.specs.Fields.{Field, start}
+use Rattle.kinds.specs.Layout.{layout, kindOf, hasText, parts}
+use Rattle.records.specs.Records.{Valued, lookup, inOrder, recordOf}
+use Rattle.numbers.specs.declared.Numbers.{Numbers}
+use Rattle.numbers.specs.declared.to_record.FromNumbers.{FromNumbers}
+use Rattle.numbers.specs.declared.to_record.FromNumbers.the-variants as G
+use Rattle.numbers.specs.Numbers.{numbered, nine}
+
+-- the fields in order take their numbers, each as many as its starting value has
+unfoldable pub spread : List Field → List ℕ → List Valued
+spread [] ns = []
+spread (f ∷ fs) ns = record { field = f; value = take (length (start f)) ns } ∷ spread fs (drop (length (start f)) ns)
+
+abbrev pub valuesFrom : Kind → Numbers → Field → List ℕ
+valuesFrom k c = lookup (spread (inOrder k) (nine c))
+
+-- each number is at most its field's largest
+pub record Fitting (k : Kind) (c : Numbers) : Type 0 where
+  pub is : fits (layout k .fields) (parts (valuesFrom k c)) ≡ true
+
+-- refusal 12 for a number above its field's largest, 9 for port 3, 10 for direction 0; else the record
+unfoldable pub fromKind : Kind → Numbers → FromNumbers
+fromKind k c =
+    pick (not (fits (layout k .fields) (parts (valuesFrom k c)))) (G.Refused NumberTooLarge)
+    (pick (eqb (getD (valuesFrom k c Field.midi1-port) 0 0) noPort) (G.Refused BadPort)
+    (pick (eqb (getD (valuesFrom k c Field.direction) 0 0) noDirection) (G.Refused BadDirection)
+    (G.Message (recordOf k (c .packets) (valuesFrom k c)))))
+
+abbrev pub fromKnown : Known → Numbers → FromNumbers
+fromKnown Unknown c = G.Refused UnknownStatus
+fromKnown (Is k) c = fromKind k c
+
+-- refusal 5 first
+abbrev pub fromNumbers : Numbers → FromNumbers
+fromNumbers c = fromKnown (kindOf (c .status)) c
+
+-- what is looked at of numbers given for a kind: a fixed kind is one packet, and numbers past the kind's last are as 0
+abbrev pub trimmed : Kind → Numbers → Numbers
+trimmed k c =
+    numbered (c .status) (pick (hasText (layout k .body)) (c .packets) 1) (take (length (each start (inOrder k))) (nine c))
+
+-- ---- the numbers of the slots, one a slot: a pair is two septets, the low one first
+abbrev pub plainSlots : Numbers → List ℕ
+plainSlots c = nine c ++ (0 ∷ 0 ∷ [])
+
+abbrev pub pairSlots : Numbers → List ℕ
+pairSlots c =
+    c .first ∷ c .second ∷ c .third ∷ c .fourth % 128 ∷ c .fourth / 128 ∷ c .fifth % 128 ∷ c .fifth / 128 ∷ c .sixth ∷ c .seventh ∷ c .eighth ∷ c .ninth ∷ []
+
+abbrev pub slotNumbers : Kind → Numbers → List ℕ
+slotNumbers K.EndpointDiscovery c = plainSlots c
+slotNumbers K.EndpointInfo c = plainSlots c
+slotNumbers K.DeviceIdentity c = pairSlots c
+slotNumbers K.EndpointName c = plainSlots c
+slotNumbers K.ProductInstanceId c = plainSlots c
+slotNumbers K.FunctionBlockInfo c = plainSlots c
+slotNumbers K.FunctionBlockName c = plainSlots c

@@ -1,0 +1,24 @@
+-- `places::identity_place` meets its contract, a slot at a time.
+use Rattle.laws.proofs.EachBelow.{missed}
+use Rattle.kinds.specs.Layout.{identityFields}
+use Rattle.table.proofs.PlaceLaws.{past}
+use borrow.Author.Needs.{needs}
+use Rattle.table.proofs.places.identity_place.Statement.{statement}
+use Rattle.table.proofs.places.identity_place.Tie as tie
+
+pub identity-place-spec : {M : Type 1} → statement M
+identity-place-spec =
+    tie.close
+    (tie.spec
+    (λ c. rw (c .match .keys1) (search needs))
+    (λ c. rw (c .match .keys2) (search needs))
+    (λ c. rw (c .match .keys3) (search needs))
+    (λ c. rw (c .match .keys4) (search needs))
+    (λ c. rw (c .match .keys5) (search needs))
+    (λ c. rw (c .match .keys6) (search needs))
+    (λ c. rw (c .match .keys7) (search needs))
+    (λ c. rw (c .match .keys8) (search needs))
+    (λ c. rw (c .match .keys9) (search needs))
+    (λ c. rw (c .match .keys10) (search needs))
+    (λ c. rw (c .match .keys11) (search needs))
+    (λ c. past identityFields (missed 11 _ (c .match .rest)) (search needs)))
