@@ -24,6 +24,7 @@ use kinds::kind::Known;
 use kinds::refusal::Refusal;
 use records::answers::Read;
 use table::rows::kind_of;
+use text_check::good_text;
 
 // A fixed kind is one packet, text at most 64.
 pub fn most_packets(kind: Kind) -> usize

@@ -13,7 +13,6 @@ use records::answers::Answer;
 use settings::target::Target;
 use text::packets::packets_needed;
 use text_check::check_utf8;
-use text_check::check_utf8;
 use utf8::Utf8;
 
 pub enum Plan {
