@@ -12,7 +12,7 @@ use Rattle.kinds.specs.Layout.{layout}
 use Rattle.records.specs.declared.answers.Answer.{Answer}
 use Rattle.standard.specs.Heads.{packetsOf}
 use Rattle.standard.specs.Words.{Outcome, outcome, setOn, answerTo, encode}
-use Rattle.standard.specs.Lists.{setAll, Answered, withAnswer, answerAll, isDone, lastAccepted, onlyField}
+use Rattle.standard.specs.Lists.{setAll, SettingAnswer, withAnswer, answerAll, isDone, lastAccepted, onlyField}
 use Rattle.promises.specs.Values.{changed, fieldAnswered}
 
 -- ---- a field's last value depends on its own settings only
@@ -36,7 +36,7 @@ only-answered h f [] = refl
 only-answered h f (s ∷ ss) = go (same f (fieldIn s)) (only-answered h f ss)
   where
     go : (b : Bool) → onlyField fieldAnswered f (map (λ s. withAnswer s (h s)) ss) ≡ map (λ s. withAnswer s (h s)) (onlyField fieldIn f ss) → pick b (withAnswer s (h s) ∷ onlyField fieldAnswered f (map (λ s. withAnswer s (h s)) ss)) (onlyField fieldAnswered f (map (λ s. withAnswer s (h s)) ss)) ≡ map (λ s. withAnswer s (h s)) (pick b (s ∷ onlyField fieldIn f ss) (onlyField fieldIn f ss))
-    go true e = ap (λ (l : List Answered). withAnswer s (h s) ∷ l) e
+    go true e = ap (λ (l : List SettingAnswer). withAnswer s (h s) ∷ l) e
     go false e = e
 
 -- ---- given the law of one setting
@@ -53,7 +53,7 @@ module _ (k : Kind) (ws : List ℕ) (Good : (Field → List ℕ) → Type 0)
   all-answered [] v g = refl
   all-answered (s ∷ ss) v g =
       ap (λ (r : Outcome). withAnswer s (r .answer) ∷ answerAll ss (r .words)) (law v g s)
-      ∙ ap (λ (l : List Answered). withAnswer s (answerTo (layout k) (packetsOf ws) s) ∷ l) (all-answered ss (changed k (packetsOf ws) s v) (keep v g s))
+      ∙ ap (λ (l : List SettingAnswer). withAnswer s (answerTo (layout k) (packetsOf ws) s) ∷ l) (all-answered ss (changed k (packetsOf ws) s v) (keep v g s))
 
   -- the last accepted values are good
   pub all-good : (ss : List Setting) (v : Field → List ℕ) → Good v → Good (λ f. lastAccepted k (packetsOf ws) f (v f) ss)

@@ -9,7 +9,7 @@ use Rattle.kinds.specs.Layout.{layout}
 use Rattle.records.specs.declared.message.Message.{Message}
 use Rattle.records.specs.Records.{recordOf}
 use Rattle.standard.specs.Words.{answerTo, encode}
-use Rattle.standard.specs.Lists.{Answered, isDone, lastAccepted}
+use Rattle.standard.specs.Lists.{SettingAnswer, isDone, lastAccepted}
 use Rattle.promises.specs.Good.{textFor, packetsFor}
 
 -- the number of its packets
@@ -37,5 +37,5 @@ abbrev pub lastValues : Kind → ℕ → List Setting → Field → List ℕ
 lastValues k room ss f = lastAccepted k room f (start f) ss
 
 -- the field of an answered setting
-abbrev pub fieldAnswered : Answered → Field
+abbrev pub fieldAnswered : SettingAnswer → Field
 fieldAnswered t = fieldIn (t .setting)

@@ -16,15 +16,15 @@ setAll [] ws = ws
 setAll (s ∷ ss) ws = setAll ss (setOn s ws .words)
 
 -- a setting with its answer
-pub record Answered : Type 0 where
+pub record SettingAnswer : Type 0 where
   pub setting : Setting
   pub answer : Answer
 
-abbrev pub withAnswer : Setting → Answer → Answered
+abbrev pub withAnswer : Setting → Answer → SettingAnswer
 withAnswer s a = record { setting = s; answer = a }
 
 -- each setting of a list with its answer
-unfoldable pub answerAll : List Setting → List ℕ → List Answered
+unfoldable pub answerAll : List Setting → List ℕ → List SettingAnswer
 answerAll [] ws = []
 answerAll (s ∷ ss) ws = withAnswer s (setOn s ws .answer) ∷ answerAll ss (setOn s ws .words)
 
