@@ -133,7 +133,7 @@ unfoldable pub setOn : Setting → List ℕ → Outcome
 setOn s ws = setWalked (walkOf ws 0) s ws
 
 -- ---- writing a record of a fixed kind
--- refusals 13 for a text kind, 12, 14; else the fresh message with the record's fields
+-- refusal 13 for a text kind, then 12 and 14; otherwise a fresh message with the record's fields
 unfoldable pub writeOn : Message → List ℕ → Outcome
 writeOn m ws =
     pick (hasText (layout (kindIn m) .body)) (unchanged NoSuchField ws)

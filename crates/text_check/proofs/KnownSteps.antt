@@ -9,7 +9,7 @@ use Rattle.laws.proofs.Pick.{true-false, split}
 use Rattle.laws.proofs.EachBelow.{eachBelow, each-at, and-left, and-right, and-l, and-r, three-hold, four-hold, five-hold, six-hold, implied, implied-holds}
 use Rattle.text.specs.Octets.{octetOf}
 use Rattle.text.proofs.Back.{octet-small}
-use Rattle.text_check.specs.FastCheck.{tableRow, tableStep, stepKeepingZeros, isE0ToEF, notE0OrED, simpleFirst, isTail, runOfTwo, firstThree, lastThree, runNoneDue, runOneDue, runTwoDue, runOfFour, runOfTwelve, afterWord, asciiWord}
+use Rattle.text_check.specs.FastCheck.{nextStates, tableStep, stepKeepingZeros, isE0ToEF, notE0OrED, simpleFirst, isTail, runOfTwo, firstThree, lastThree, runNoneDue, runOneDue, runTwoDue, runOfFour, runOfTwelve, afterWord, asciiWord}
 
 -- ---- one byte, with zeros dropped or kept
 
@@ -31,20 +31,20 @@ leads cond s next all b l e =
 
 -- an ASCII byte leaves state 0 as it is
 ascii-stays : (b : ℕ) → b < 256 → ltb b 128 ≡ true → Leads 0 b 0
-unfolding lead-test stepKeepingZeros tableStep tableRow
+unfolding lead-test stepKeepingZeros tableStep nextStates
 ascii-stays = leads (λ b. ltb b 128) 0 0 tt
 
 -- a simple three-byte character: its first byte leads from 0 to 12, its tails lead to 6 and back to 0
 opens : (b : ℕ) → b < 256 → simpleFirst b ≡ true → Leads 0 b 12
-unfolding lead-test stepKeepingZeros tableStep tableRow
+unfolding lead-test stepKeepingZeros tableStep nextStates
 opens = leads simpleFirst 0 12 tt
 
 tail-first : (b : ℕ) → b < 256 → isTail b ≡ true → Leads 12 b 6
-unfolding lead-test stepKeepingZeros tableStep tableRow
+unfolding lead-test stepKeepingZeros tableStep nextStates
 tail-first = leads isTail 12 6 tt
 
 tail-last : (b : ℕ) → b < 256 → isTail b ≡ true → Leads 6 b 0
-unfolding lead-test stepKeepingZeros tableStep tableRow
+unfolding lead-test stepKeepingZeros tableStep nextStates
 tail-last = leads isTail 6 0 tt
 
 -- ---- the octets of a word

@@ -13,7 +13,7 @@ use Rattle.utf8.specs.Utf8.{_‥_, tail, dueAfter}
 use Rattle.utf8.proofs.Same.{sameRanges, sameDue, same-due-eq}
 use Rattle.text.specs.Octets.{octetOf}
 use Rattle.text.proofs.Back.{octet-small}
-use Rattle.text_check.specs.FastCheck.{IsState, tableRow, tableStep, afterWord, stepKeepingZeros}
+use Rattle.text_check.specs.FastCheck.{IsState, nextStates, tableStep, afterWord, stepKeepingZeros}
 use Rattle.text_check.proofs.Due.{Due, ready, nextDue, isReady}
 
 -- ---- state 6 k stands for entry k of `dues`, and 48 for bad text
@@ -64,7 +64,7 @@ step-tests : ℕ → Bool
 step-tests b = eachBelow (step-test b) 9
 
 all-steps : T (eachBelow step-tests 256)
-unfolding step-tests step-test tableStep tableRow dueAt dues sameDue sameRanges dueAfter
+unfolding step-tests step-test tableStep nextStates dueAt dues sameDue sameRanges dueAfter
 all-steps = tt
 
 pub record StepLaw (s b : ℕ) : Type 0 where
@@ -93,7 +93,7 @@ stay-test : ℕ → Bool
 stay-test k = eqb (tableStep (6 * k) 0) (6 * k)
 
 stay-six : (k : ℕ) → k < 9 → tableStep (6 * k) 0 ≡ 6 * k
-unfolding stay-test tableStep tableRow
+unfolding stay-test tableStep nextStates
 stay-six k h = eqb→eq (tableStep (6 * k) 0) (6 * k) (each-at stay-test 9 tt k h)
 
 zero-stays : (s : ℕ) → IsState s → tableStep s 0 ≡ s

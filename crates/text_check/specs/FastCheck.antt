@@ -69,8 +69,8 @@ abbrev pub movesOf : ℕ → ℕ
 movesOf k = getD moveList k 0x30c30c30c30c30
 
 -- the next state from each state for byte b
-unfoldable pub tableRow : ℕ → ℕ
-tableRow b = movesOf (classesOf (b / 16) / 2 ^ (b % 16 * 4) % 16)
+unfoldable pub nextStates : ℕ → ℕ
+nextStates b = movesOf (classesOf (b / 16) / 2 ^ (b % 16 * 4) % 16)
 
 -- s is a state of the table: one of 0, 6, .., 48
 pub record IsState (s : ℕ) : Type 0 where
@@ -79,7 +79,7 @@ pub record IsState (s : ℕ) : Type 0 where
 
 -- the state after a byte; a zero byte changes nothing
 unfoldable pub tableStep : ℕ → ℕ → ℕ
-tableStep s b = tableRow b / 2 ^ s % 64
+tableStep s b = nextStates b / 2 ^ s % 64
 
 -- ---- simple three-byte characters, checked without the table: the first byte is E1..EF but not ED, the other two are any of 80..BF
 

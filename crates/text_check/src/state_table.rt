@@ -1,7 +1,7 @@
 // The UTF-8 check as a state table. State 6 k says which bytes may come next. Each table is a match with one literal per arm, which LLVM turns into read-only data.
 ghost use mathlib.Core.Path.{_≡_};
 ghost use Prim.Native.Nat.{_<_};
-ghost use Rattle.text_check.specs.FastCheck.{classesOf, movesOf, tableRow, tableStep};
+ghost use Rattle.text_check.specs.FastCheck.{classesOf, movesOf, nextStates, tableStep};
 
 // The state of bad text.
 pub(crate) const BAD: u64 = 48;
@@ -63,8 +63,8 @@ fn moves(k: u64) -> u64
 }
 
 // The next state from each state for byte b.
-fn row(b: u8) -> u64
-    ensures { λ r. ⌜ r ≡ tableRow b ⌝ }
+fn next_states(b: u8) -> u64
+    ensures { λ r. ⌜ r ≡ nextStates b ⌝ }
 {
     moves((classes(b / 16) >> (b % 16 * 4)) % 16)
 }
@@ -75,5 +75,5 @@ pub(crate) fn table_step(s: u64, b: u8) -> u64
     ensures { λ r. ⌜ r ≡ tableStep s b ⌝ }
     ensures small { λ r. ⌜ r < 64 ⌝ }
 {
-    (row(b) >> s) % 64
+    (next_states(b) >> s) % 64
 }

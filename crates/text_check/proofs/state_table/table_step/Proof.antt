@@ -1,4 +1,4 @@
--- `state_table::table_step` meets its contract: the six bits of the byte's row at the state.
+-- `state_table::table_step` meets its contract: the six bits of `next_states` at the state.
 use borrow.Author.Needs.{needs}
 use Rattle.text_check.specs.FastCheck.{tableStep}
 use Rattle.text_check.proofs.state_table.table_step.Statement.{statement}
@@ -6,7 +6,7 @@ use Rattle.text_check.proofs.state_table.table_step.Tie as tie
 
 returns : tie.Need-returns
 unfolding tableStep
-returns c = (rw (c .row .ensures), search needs)
+returns c = (rw (c .next-states .ensures), search needs)
 
 pub table-step-spec : {M : Type 1} → statement M
 table-step-spec =
