@@ -1,4 +1,5 @@
 pub mod BySlot
+pub mod Within
 pub mod Accepted
 pub mod Computed
 pub mod Back

@@ -1,11 +1,11 @@
 -- A RECORD FROM ITS NUMBERS: what was given may be no record, and is then refused.
 use Prim.Native.Nat.{ℕ, _/_, _%_}
 use mathlib.Core.Path.{_≡_}
-use mathlib.Core.Bool.{true, not}
+use mathlib.Core.Bool.{Bool, true, false, not}
 use mathlib.Core.List.{List, [], _∷_, _++_}
 use lib.ListN.{length, getD, take, drop}
-use lib.Dec.{eqb}
-use Rattle.laws.specs.Pick.{pick}
+use lib.Dec.{ltb, eqb}
+use Rattle.laws.specs.Pick.{pick, both}
 use Rattle.laws.specs.Lists.{each}
 use Rattle.slots.specs.Slots.{fits}
 use Rattle.kinds.specs.declared.kind.Kind.{Kind}
@@ -54,6 +54,12 @@ fromNumbers c = fromKnown (kindOf (c .status)) c
 abbrev pub trimmed : Kind → Numbers → Numbers
 trimmed k c =
     numbered (c .status) (pick (hasText (layout k .body)) (c .packets) 1) (take (length (each start (inOrder k))) (nine c))
+
+-- each number is below its limit
+unfoldable pub within : List ℕ → List ℕ → Bool
+within [] ls = true
+within (n ∷ ns) [] = false
+within (n ∷ ns) (l ∷ ls) = both (ltb n l) (within ns ls)
 
 -- ---- the numbers of the slots, one a slot: a pair is two septets, the low one first
 abbrev pub plainSlots : Numbers → List ℕ

@@ -1,11 +1,10 @@
-// The numbers of a record slot by slot, in the table's order: held to their slots, and put into words.
+// The numbers of a record slot by slot, in the table's order: held to their limits, and put into words.
 ghost use mathlib.Core.Path.{_≡_};
 ghost use Rattle.slots.specs.Slots.{fits};
 ghost use Rattle.buffer.specs.Filling.{putIns};
 ghost use Rattle.kinds.specs.Layout.{layout, parts};
-ghost use Rattle.numbers.specs.FromNumbers.{valuesFrom, slotNumbers, plainSlots, pairSlots};
+ghost use Rattle.numbers.specs.FromNumbers.{within, valuesFrom, slotNumbers, plainSlots, pairSlots};
 use crate::Numbers;
-use crate::by_slot::numbers_fit;
 use crate::by_slot::put_numbers;
 use kinds::kind::Kind;
 use table::rows::row_of;
@@ -63,14 +62,37 @@ fn slot_numbers(kind: Kind, c: Numbers) -> [u32; 11]
     }
 }
 
-// Whether each number is at most its field's largest.
-pub fn slots_fit(kind: Kind, c: Numbers) -> bool
+// Whether each number is below its limit.
+fn are_within(numbers: &[u32], limits: &[u32]) -> bool
+    ensures { λ r. ⌜ r ≡ within (now (numbers .entry)) (now (limits .entry)) ⌝ }
+{
+    let mut i = 0;
+    while i < numbers.len() {
+        if limits.len() <= i {
+            return false;
+        }
+        if limits[i] <= numbers[i] {
+            return false;
+        }
+        i += 1;
+    }
+    true
+}
+
+// Whether each number is at most its field's largest. The limits are constants, so that the compiler takes the loop apart.
+pub fn numbers_in_range(kind: Kind, c: Numbers) -> bool
     ensures { λ r. ⌜ r ≡ fits (layout kind .fields) (parts (valuesFrom kind c)) ⌝ }
 {
     let ns = slot_numbers(kind, c);
-    let row = row_of(kind);
-    let count = row.slots;
-    numbers_fit(kind, 0, &ns[..count])
+    match kind {
+        Kind::EndpointDiscovery => are_within(&ns[..7], &[256, 256, 2, 2, 2, 2, 2]),
+        Kind::EndpointInfo => are_within(&ns[..8], &[256, 256, 2, 2, 2, 2, 2, 128]),
+        Kind::DeviceIdentity => are_within(&ns[..11], &[128; 11]),
+        Kind::EndpointName => true,
+        Kind::ProductInstanceId => true,
+        Kind::FunctionBlockInfo => are_within(&ns[..9], &[2, 128, 4, 4, 4, 16, 256, 256, 256]),
+        Kind::FunctionBlockName => are_within(&ns[..1], &[256]),
+    }
 }
 
 // A number that does not fit is left out.

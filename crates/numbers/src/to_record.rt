@@ -4,7 +4,7 @@ ghost use Rattle.kinds.specs.declared.kind.Kind.the-variants as K;
 ghost use Rattle.records.specs.Records.{recordOf};
 ghost use Rattle.numbers.specs.FromNumbers.{Fitting, valuesFrom, fromKind, fromNumbers};
 use crate::Numbers;
-use crate::in_slots::slots_fit;
+use crate::in_slots::numbers_in_range;
 use counts::PacketNumber;
 use kinds::choices::direction_of;
 use kinds::choices::hint_of;
@@ -139,7 +139,7 @@ pub fn record_from(c: Numbers) -> FromNumbers
 {
     match kind_of(c.status) {
         Known::Is(kind) => {
-            if slots_fit(kind, c) {
+            if numbers_in_range(kind, c) {
                 return fitting_record(kind, c);
             }
             FromNumbers::Refused(Refusal::NumberTooLarge)

@@ -23,31 +23,37 @@ use Rattle.records.specs.Settings.{tooLarge}
 use Rattle.standard.specs.Heads.{packetsOf}
 use Rattle.standard.specs.Walk.{walkOf}
 use Rattle.standard.specs.Words.{outcome, unchanged, missing, answerTo, actIn, setOn}
-use Rattle.buffer.specs.Filling.{putIns}
-use Rattle.table.specs.Places.{slotAt}
-use Rattle.numbers.specs.BySlot.{putSlot, fitFrom, putFrom}
+use Rattle.buffer.specs.Filling.{putIn, putIns}
+use Rattle.table.specs.declared.places.Place.{Place}
+use Rattle.table.specs.Places.{slotAt, PlaceIs}
+use Rattle.numbers.specs.BySlot.{fitFrom, putFrom}
 use Rattle.buffer.proofs.Puts.{ins-put}
 use Rattle.settings.specs.declared.target.Target.{Target}
 use Rattle.settings.specs.declared.target.Target.the-variants as T
 use Rattle.settings.specs.Target.{targetOf, settled}
-use Rattle.settings.specs.Fixed.{fitted, slotOn, slotsOn}
+use Rattle.settings.specs.Fixed.{fitted, placeOn, slotOn, slotsOn}
 use Rattle.settings.proofs.Owned.{ownedBy, own-has, Own, set-refused, set-own}
 use Rattle.settings.proofs.Settled.{settled-refused, settled-own}
 
 -- ---- how the code reaches each case
-module _ (k : Kind) (i v : ℕ) (ws : List ℕ) where
-  pub slot-refused : {r : Refusal} → targetOf (layout k .status) (walkOf ws 0) ≡ T.Refused r → slotOn k i v ws ≡ unchanged r ws
-  unfolding slotOn
-  slot-refused e = settled-refused _ ws e
+module _ (status word at span v : ℕ) (ws : List ℕ) where
+  pub place-refused : {r : Refusal} → targetOf status (walkOf ws 0) ≡ T.Refused r → placeOn status word at span v ws ≡ unchanged r ws
+  unfolding placeOn
+  place-refused e = settled-refused _ ws e
 
-  module _ {n : PacketNumber} (e : targetOf (layout k .status) (walkOf ws 0) ≡ T.Packets n) where
-    pub slot-large : leb (2 ^ slotAt (layout k .fields) i .span) v ≡ true → slotOn k i v ws ≡ unchanged NumberTooLarge ws
-    unfolding slotOn
-    slot-large h = settled-own _ ws e ∙ rw (le-ltb v (2 ^ slotAt (layout k .fields) i .span) (leb-true (2 ^ slotAt (layout k .fields) i .span) v h))
+  module _ {n : PacketNumber} (e : targetOf status (walkOf ws 0) ≡ T.Packets n) where
+    pub place-large : leb (2 ^ span) v ≡ true → placeOn status word at span v ws ≡ unchanged NumberTooLarge ws
+    unfolding placeOn
+    place-large h = settled-own _ ws e ∙ rw (le-ltb v (2 ^ span) (leb-true (2 ^ span) v h))
 
-    pub slot-done : leb (2 ^ slotAt (layout k .fields) i .span) v ≡ false → slotOn k i v ws ≡ outcome A.Done (putSlot (slotAt (layout k .fields) i) v ws)
-    unfolding slotOn
-    slot-done h = settled-own _ ws e ∙ rw (lt-ltb v (2 ^ slotAt (layout k .fields) i .span) (leb-false (2 ^ slotAt (layout k .fields) i .span) v h))
+    pub place-done : leb (2 ^ span) v ≡ false → placeOn status word at span v ws ≡ outcome A.Done (putIn word at span v ws)
+    unfolding placeOn
+    place-done h = settled-own _ ws e ∙ rw (lt-ltb v (2 ^ span) (leb-false (2 ^ span) v h))
+
+-- the place that the code was given for a slot
+pub slot-told : (k : Kind) (i v : ℕ) (ws : List ℕ) {status : ℕ} {p : Place} → status ≡ layout k .status → PlaceIs (slotAt (layout k .fields) i) p → placeOn status (p .0) (p .1) (p .2) v ws ≡ slotOn k i v ws
+unfolding slotOn
+slot-told k i v ws e p = rw (e, p .word, p .low, p .width)
 
 module _ (k : Kind) (i : ℕ) (xs ws : List ℕ) where
   pub slots-refused : {r : Refusal} → targetOf (layout k .status) (walkOf ws 0) ≡ T.Refused r → slotsOn k i xs ws ≡ unchanged r ws
@@ -133,5 +139,5 @@ abbrev pub one : Kind → ℕ → List (Slot Part)
 one k i = slotAt (layout k .fields) i ∷ []
 
 pub set-slot : (k : Kind) (s : Setting) (i v : ℕ) → facts k s ≡ plain fixed (one k i) → parts (λ f. valueIn s) (slotAt (layout k .fields) i .key) ≡ v → (ws : List ℕ) → setOn s ws ≡ slotOn k i v ws
-unfolding slotOn fits putIns
+unfolding slotOn placeOn fits putIns
 set-slot k s i v f e ws = rw (← e, ← both-alone (ltb (parts (λ f. valueIn s) (slotAt (layout k .fields) i .key)) (2 ^ slotAt (layout k .fields) i .span))) (set-fixed k s (one k i) f ws _ refl)

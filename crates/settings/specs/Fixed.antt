@@ -8,7 +8,8 @@ use Rattle.kinds.specs.declared.kind.Kind.{Kind}
 use Rattle.kinds.specs.declared.refusal.Refusal.the-variants.{NumberTooLarge}
 use Rattle.kinds.specs.Layout.{layout}
 use Rattle.table.specs.Places.{slotAt}
-use Rattle.numbers.specs.BySlot.{putSlot, fitFrom, putFrom}
+use Rattle.buffer.specs.Filling.{putIn}
+use Rattle.numbers.specs.BySlot.{fitFrom, putFrom}
 use Rattle.records.specs.declared.answers.Answer.the-variants as A
 use Rattle.standard.specs.Walk.{walkOf}
 use Rattle.standard.specs.Words.{Outcome, outcome, unchanged}
@@ -18,10 +19,15 @@ use Rattle.settings.specs.Target.{targetOf, settled}
 abbrev pub fitted : Bool → List ℕ → List ℕ → Outcome
 fitted fits new ws = pick fits (outcome A.Done new) (unchanged NumberTooLarge ws)
 
+-- one number in some bits of a word, of a message with this status
+unfoldable pub placeOn : ℕ → ℕ → ℕ → ℕ → ℕ → List ℕ → Left
+placeOn status word at span v ws =
+    settled (targetOf status (walkOf ws 0)) (λ n. fitted (ltb v (2 ^ span)) (putIn word at span v ws) ws) ws
+
 -- one number in slot i of a kind
 unfoldable pub slotOn : Kind → ℕ → ℕ → List ℕ → Outcome
 slotOn k i v ws =
-    settled (targetOf (layout k .status) (walkOf ws 0)) (λ n. fitted (ltb v (2 ^ slotAt (layout k .fields) i .span)) (putSlot (slotAt (layout k .fields) i) v ws) ws) ws
+    placeOn (layout k .status) (slotAt (layout k .fields) i .word) (slotAt (layout k .fields) i .at) (slotAt (layout k .fields) i .span) v ws
 
 -- numbers in the slots of a kind, from slot i on
 unfoldable pub slotsOn : Kind → ℕ → List ℕ → List ℕ → Outcome

@@ -1,6 +1,6 @@
 // Settings of fixed kinds by slot: one number, or several in slots one after another.
 ghost use mathlib.Core.Path.{_≡_};
-ghost use Rattle.settings.specs.Fixed.{slotOn, slotsOn};
+ghost use Rattle.settings.specs.Fixed.{placeOn, slotOn, slotsOn};
 use crate::target::Target;
 use crate::target::find_target;
 use buffer::fields::put_field;
@@ -13,26 +13,34 @@ use records::answers::Answer;
 use table::places::place_of;
 use table::rows::row_of;
 
-// The refusals of the target, then 12; else the number is put.
-pub(crate) fn set_slot(words: &mut [u32], kind: Kind, slot: u8, v: u32) -> Answer
-    ensures answer { λ r. ⌜ r ≡ slotOn kind slot v (now (words .entry)) .answer ⌝ }
-    ensures buffer { λ r. ⌜ now (words .exit) ≡ slotOn kind slot v (now (words .entry)) .words ⌝ }
+// The refusals of the target, then 12; else the number is put into the `span` bits from bit `at` on.
+fn set_place(words: &mut [u32], status: u32, word: usize, at: usize, span: usize, v: u32) -> Answer
+    ensures answer { λ r. ⌜ r ≡ placeOn status word at span v (now (words .entry)) .answer ⌝ }
+    ensures buffer { λ r. ⌜ now (words .exit) ≡ placeOn status word at span v (now (words .entry)) .words ⌝ }
 {
-    let row = row_of(kind);
-    match find_target(words, row.status) {
+    match find_target(words, status) {
         Target::Refused(refusal) => Answer::Refused(refusal),
         Target::Packets(_) => {
-            let place = place_of(kind, slot as usize);
-            if too_large(place.2, v) {
+            if too_large(span, v) {
                 return Answer::Refused(Refusal::NumberTooLarge);
             }
-            put_field(words, place.0, place.1, place.2, v);
+            put_field(words, word, at, span, v);
             Answer::Done
         }
     }
 }
 
-// The same for several numbers, the first in slot `first`.
+// One number. Callers name the slot by constants, so that the compiler looks the place up.
+pub(crate) fn set_slot(words: &mut [u32], kind: Kind, slot: u8, v: u32) -> Answer
+    ensures answer { λ r. ⌜ r ≡ slotOn kind slot v (now (words .entry)) .answer ⌝ }
+    ensures buffer { λ r. ⌜ now (words .exit) ≡ slotOn kind slot v (now (words .entry)) .words ⌝ }
+{
+    let row = row_of(kind);
+    let place = place_of(kind, slot as usize);
+    set_place(words, row.status, place.0, place.1, place.2, v)
+}
+
+// Several numbers, the first in slot `first`.
 pub(crate) fn set_slots(words: &mut [u32], kind: Kind, first: u8, numbers: &[u32]) -> Answer
     ensures answer { λ r. ⌜ r ≡ slotsOn kind first (now (numbers .entry)) (now (words .entry)) .answer ⌝ }
     ensures buffer { λ r. ⌜ now (words .exit) ≡ slotsOn kind first (now (numbers .entry)) (now (words .entry)) .words ⌝ }

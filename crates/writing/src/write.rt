@@ -4,8 +4,8 @@ ghost use Rattle.standard.specs.Words.{writeOn};
 ghost use Rattle.writing.specs.Put.{putRecord};
 use buffer::packets::clear;
 use kinds::refusal::Refusal;
+use numbers::in_slots::numbers_in_range;
 use numbers::in_slots::put_slots;
-use numbers::in_slots::slots_fit;
 use numbers::of_record::numbers_of;
 use records::answers::Answer;
 use records::message::Message;
@@ -32,7 +32,7 @@ pub fn write(words: &mut [u32], message: Message) -> Answer
     if 1 < row.most_packets {
         return Answer::Refused(Refusal::NoSuchField);
     }
-    if slots_fit(kind, numbers_of(message)) {
+    if numbers_in_range(kind, numbers_of(message)) {
         if words.len() < 4 {
             return Answer::Refused(Refusal::NoRoom);
         }

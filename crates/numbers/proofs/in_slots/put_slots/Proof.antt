@@ -10,10 +10,8 @@ pub put-slots-spec : {M : Type 1} → statement M
 put-slots-spec =
     tie.close
     (tie.spec
-    (λ c κs. search needs)
-    (λ c κs. search needs)
+    (λ c κs. search needs) (λ c κs. search needs)
     (λ c. few (c .before .before .before .before .args .kind) _ (c .before .row-of .ensures) (c .before .before .slot-numbers .ensures))
     (λ c. sym (length-take-le _ _ (few (c .before .before .before .before .before .args .kind) _ (c .before .before .row-of .ensures) (c .before .before .before .slot-numbers .ensures))))
-    (λ c κs. search needs)
-    (λ c. search needs)
+    (λ c κs. search needs) (λ c. search needs)
     (λ c. c .before .before .put-numbers .ensures ∙ rw (c .before .before .before .before .before .row-of .ensures .slots, c .before .before .before .before .before .before .slot-numbers .ensures) (slots-put (c .before .before .before .before .before .before .before .before .args .kind) _ _)))

@@ -9,12 +9,6 @@ pub of-endpoint-discovery-spec : {M : Type 1} → statement M
 of-endpoint-discovery-spec =
     tie.close
     (tie.spec
-    (λ c. search needs)
-    (λ c. search needs)
-    (λ c. search needs)
-    (λ c. search needs)
-    (λ c. search needs)
-    (λ c. search needs)
-    (λ c. search needs)
-    (λ c κs. search needs)
+    (λ c. search needs) (λ c. search needs) (λ c. search needs) (λ c. search needs)
+    (λ c. search needs) (λ c. search needs) (λ c. search needs) (λ c κs. search needs)
     (λ c. rw (c .of-kind .ensures, discovery-numbers _, bit-byte _, bit-byte _, bit-byte _, bit-byte _, bit-byte _)))

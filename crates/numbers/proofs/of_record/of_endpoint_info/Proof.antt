@@ -9,13 +9,7 @@ pub of-endpoint-info-spec : {M : Type 1} → statement M
 of-endpoint-info-spec =
     tie.close
     (tie.spec
-    (λ c. search needs)
-    (λ c. search needs)
-    (λ c. search needs)
-    (λ c. search needs)
-    (λ c. search needs)
-    (λ c. search needs)
-    (λ c. search needs)
-    (λ c. search needs)
+    (λ c. search needs) (λ c. search needs) (λ c. search needs) (λ c. search needs)
+    (λ c. search needs) (λ c. search needs) (λ c. search needs) (λ c. search needs)
     (λ c κs. search needs)
     (λ c. rw (c .of-kind .ensures, info-numbers _, bit-byte _, bit-byte _, bit-byte _, bit-byte _, bit-byte _)))

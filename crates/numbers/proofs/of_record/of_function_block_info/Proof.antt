@@ -9,14 +9,7 @@ pub of-function-block-info-spec : {M : Type 1} → statement M
 of-function-block-info-spec =
     tie.close
     (tie.spec
-    (λ c. search needs)
-    (λ c. search needs)
-    (λ c κs. search needs)
-    (λ c κs. search needs)
-    (λ c κs. search needs)
-    (λ c. search needs)
-    (λ c. search needs)
-    (λ c. search needs)
-    (λ c. search needs)
-    (λ c κs. search needs)
+    (λ c. search needs) (λ c. search needs) (λ c κs. search needs) (λ c κs. search needs)
+    (λ c κs. search needs) (λ c. search needs) (λ c. search needs) (λ c. search needs)
+    (λ c. search needs) (λ c κs. search needs)
     (λ c. rw (c .of-kind .ensures, block-numbers _, bit-byte, c .before .before .before .before .before .before .before .hint-code .ensures, c .before .before .before .before .before .before .port-code .ensures, c .before .before .before .before .before .direction-code .ensures)))

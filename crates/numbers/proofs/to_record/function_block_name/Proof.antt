@@ -12,5 +12,4 @@ unfolding computed Small
 function-block-name-spec =
     tie.close
     (tie.spec
-    (λ c. let h = small K.FunctionBlockName (c .before .pre) in omega (arith, h .0))
-    (λ c. refl))
+    (λ c. let h = small K.FunctionBlockName (c .before .pre) in omega (arith, h .0)) (λ c. refl))

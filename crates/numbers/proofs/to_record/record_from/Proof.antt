@@ -10,8 +10,8 @@ record-from-spec =
     tie.close
     (tie.spec
     (λ c κs. search needs) (λ c. search needs) (λ c κs. search needs)
-    (λ c κs. record { is = sym (c .before .slots-fit .ensures) ∙ c .if1 .taken })
+    (λ c κs. record { is = sym (c .before .numbers-in-range .ensures) ∙ c .if1 .taken })
     (λ c. known (c .before .before .before .before .before .before .before .args .c) (sym (c .before .before .before .before .before .before .kind-of .ensures) ∙ c .before .before .before .before .kind .given .1) (c .fitting-record .ensures))
     (λ c. search needs)
-    (λ c. known (c .before .before .before .before .before .before .args .c) (sym (c .before .before .before .before .before .kind-of .ensures) ∙ c .before .before .before .kind .given .1) (sym (from-large _ (c .before .before .before .before .before .before .args .c) (sym (c .before .slots-fit .ensures) ∙ c .if1 .left))))
+    (λ c. known (c .before .before .before .before .before .before .args .c) (sym (c .before .before .before .before .before .kind-of .ensures) ∙ c .before .before .before .kind .given .1) (sym (from-large _ (c .before .before .before .before .before .before .args .c) (sym (c .before .numbers-in-range .ensures) ∙ c .if1 .left))))
     (λ c. rw (← c .before .before .kind-of .ensures, c .enum-told .given .1)))

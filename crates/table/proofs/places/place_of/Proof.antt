@@ -1,21 +1,19 @@
--- `places::place_of` meets its contract, kind by kind.
+-- `places::place_of` meets its contract, by the laws of `PlaceLaws`.
+use native.Mathlib.Omega.{arith}
 use Rattle.kinds.specs.Layout.{layout}
+use Rattle.table.proofs.RowLaws.{row-small}
+use Rattle.table.proofs.PlaceLaws.{past, place-told, first-few}
 use borrow.Author.Needs.{needs}
 use Rattle.table.proofs.places.place_of.Statement.{statement}
 use Rattle.table.proofs.places.place_of.Tie as tie
 
 pub place-of-spec : {M : Type 1} → statement M
-unfolding layout
 place-of-spec =
     tie.close
     (tie.spec
-    (λ c. search needs) (λ c κs. search needs) (λ c. search needs) (λ c κs. search needs)
-    (λ c. search needs) (λ c κs. search needs) (λ c. search needs) (λ c. search needs)
-    (λ c. search needs) (λ c κs. search needs) (λ c. search needs) (λ c κs. search needs)
-    (λ c. rw (c .before .enum-told .given .1) (c .discovery-place .ensures))
-    (λ c. rw (c .before .enum-told2 .given .1) (c .info-place .ensures))
-    (λ c. rw (c .before .enum-told3 .given .1) (c .identity-place .ensures))
-    (λ c. rw (c .enum-told4 .given .1) (search needs))
-    (λ c. rw (c .enum-told5 .given .1) (search needs))
-    (λ c. rw (c .before .enum-told6 .given .1) (c .block-place .ensures))
-    (λ c. rw (c .before .enum-told7 .given .1) (c .block-name-place .ensures)))
+    (λ c κs. search needs)
+    (λ c. past (layout (c .before .before .before .args .kind) .fields) (omega (arith, c .before .before .row-of .ensures .slots, c .if1 .taken)) (search needs))
+    (λ c κs. search needs)
+    (λ c. let f = first-few (c .before .before .before .before .args .kind) in let s = row-small (c .before .before .before .before .args .kind) .slots in omega (arith, f, s, c .before .before .before .row-of .ensures .slots, c .before .if1 .left, c .first-slot .ensures))
+    (λ c κs. search needs)
+    (λ c. place-told (c .before .before .before .before .before .args .kind) (c .before .before .before .before .before .args .slot) (c .before .first-slot .ensures) (omega (arith, c .before .before .before .before .row-of .ensures .slots, c .before .before .if1 .left)) (c .nth-place .ensures)))
