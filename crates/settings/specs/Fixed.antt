@@ -20,7 +20,7 @@ abbrev pub fitted : Bool → List ℕ → List ℕ → Outcome
 fitted fits new ws = pick fits (outcome A.Done new) (unchanged NumberTooLarge ws)
 
 -- one number in some bits of a word, of a message with this status
-unfoldable pub placeOn : ℕ → ℕ → ℕ → ℕ → ℕ → List ℕ → Left
+unfoldable pub placeOn : ℕ → ℕ → ℕ → ℕ → ℕ → List ℕ → Outcome
 placeOn status word at span v ws =
     settled (targetOf status (walkOf ws 0)) (λ n. fitted (ltb v (2 ^ span)) (putIn word at span v ws) ws) ws
 
