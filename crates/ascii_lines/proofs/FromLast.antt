@@ -1,4 +1,4 @@
--- Digits put from the last to the first leave what they leave in order. By induction on the text, and on the digits.
+-- Digits put from the last to the first give the same buffer as digits put in order. By induction on the text and on the digits.
 use Prim.Native.Nat.{ℕ, zero, suc, _+_, _/_, _%_, _≤_}
 use mathlib.Core.Path.{_≡_, refl, sym, ap, _∙_}
 use mathlib.Core.Logic.{⊎-elim}
@@ -10,12 +10,12 @@ use lib.Seq.{sets, length-sets, set-out}
 use borrow.Author.Tests.{lt-ltb, le-ltb}
 use Rattle.laws.proofs.Pick.{below}
 use Rattle.laws.proofs.Lists.{sets-last, sets-out}
-use Rattle.ascii_lines.specs.Page.{Page, page, put, puts, Wrote}
+use Rattle.ascii_lines.specs.Page.{Page, page, putByte, putBytes, Wrote}
 use Rattle.ascii_lines.specs.Numbers.{digit, decimal}
 use Rattle.ascii_lines.proofs.Numbers.{decimal-one, decimal-more}
 use Rattle.ascii_lines.proofs.Room.{puts-sets}
 
--- ---- the last digits of a number, so many
+-- ---- the last k digits of a number
 unfoldable pub lastDigits : ℕ → ℕ → List ℕ
 lastDigits zero n = []
 lastDigits (suc k) n = lastDigits k (n / 10) ++ digit (n % 10) ∷ []
@@ -25,7 +25,7 @@ unfolding lastDigits
 last-length zero n = refl
 last-length (suc k) n = rw (length-append, last-length k (n / 10)) (add-one k)
 
--- as many as it has are its digits
+-- all its digits, if k is their number
 last-in : (k n : ℕ) → n ≤ k → lastDigits (length (decimal n)) n ≡ decimal n
 unfolding lastDigits
 last-in zero n h = let e : n ≡ 0 = omega arith in rw (e, decimal-one 0 (omega arith))
@@ -37,32 +37,32 @@ last-in (suc k) n h =
 pub last-all : (n : ℕ) → lastDigits (length (decimal n)) n ≡ decimal n
 last-all n = last-in n n (omega arith)
 
--- a byte put is a store, where there is a place and where there is none
+-- a byte put is a store, also past the end, where both do nothing
 put-set : {i j : ℕ} {o p : List ℕ} {b : ℕ} → Wrote i o (b ∷ []) j p → p ≡ set o i b
-unfolding put puts
+unfolding putByte putBytes
 put-set {i} {j} {o} {p} {b} w =
     ap (λ (s : Page). s .out) (w .is) ∙ ⊎-elim (λ h. rw (lt-ltb i (length o) h)) (λ h. rw (le-ltb i (length o) h) (sym (set-out o i b h))) (below i (length o))
 
--- A TURN stores the last of the digits that are left
-pub turn : {i j : ℕ} {o p : List ℕ} (at k m : ℕ) → suc k ≡ i → Wrote (at + k) o (digit (m % 10) ∷ []) j p → sets p at (lastDigits k (m / 10)) ≡ sets o at (lastDigits i m)
+-- A TURN stores the last of the remaining digits
+pub digit-turn : {i j : ℕ} {o p : List ℕ} (at k m : ℕ) → suc k ≡ i → Wrote (at + k) o (digit (m % 10) ∷ []) j p → sets p at (lastDigits k (m / 10)) ≡ sets o at (lastDigits i m)
 unfolding lastDigits
-turn {o = o} at k m e w =
+digit-turn {o = o} at k m e w =
     rw (← e, put-set w) (sym (sets-last (lastDigits k (m / 10)) o at (digit (m % 10)) ∙ ap (λ (n : ℕ). sets (set o (at + n) (digit (m % 10))) at (lastDigits k (m / 10))) (last-length k (m / 10))))
 
--- and none are left in the end
+-- at the end none remain
 pub stored : {o p : List ℕ} (at i m : ℕ) → i ≤ 0 → sets p at (lastDigits i m) ≡ o → p ≡ o
 unfolding lastDigits
 stored at zero m h e = e
 stored at (suc i) m h e = absurd (omega arith)
 
--- ---- what the stores are: the text put, as far as there is room
-puts-stay : (a o : List ℕ) (i : ℕ) → length o ≤ i → puts (page i o) a ≡ page i o
-unfolding puts put
+-- ---- the stores as a text put, as far as there is room
+puts-stay : (a o : List ℕ) (i : ℕ) → length o ≤ i → putBytes (page i o) a ≡ page i o
+unfolding putBytes putByte
 puts-stay [] o i h = refl
 puts-stay (b ∷ a) o i h = rw (le-ltb i (length o) h) (puts-stay a o i h)
 
-puts-cut : (a o : List ℕ) (i : ℕ) → i ≤ length o → length o ≤ i + length a → puts (page i o) a ≡ page (length o) (sets o i a)
-unfolding puts put
+puts-cut : (a o : List ℕ) (i : ℕ) → i ≤ length o → length o ≤ i + length a → putBytes (page i o) a ≡ page (length o) (sets o i a)
+unfolding putBytes putByte
 puts-cut [] o i l h = let e : i ≡ length o = omega arith in ap (λ (n : ℕ). page n o) e
 puts-cut (b ∷ a) o i l h =
     ⊎-elim (λ g. let e = length-set o i b in rw (lt-ltb i (length o) g, add-one) (puts-cut a (set o i b) (suc i) (omega (arith, e)) (omega (arith, e)) ∙ ap (λ (n : ℕ). page n (sets (set o i b) (suc i) a)) e))

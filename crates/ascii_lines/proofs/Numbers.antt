@@ -1,4 +1,4 @@
--- Numbers as text: the digits of a number from those of a tenth of it, and that digits say the number. By induction on the steps.
+-- Numbers as text: the digits of n from those of n / 10, and reading the digits gives the number back. By induction on the steps.
 use Prim.Native.Nat.{ℕ, zero, suc, _+_, _-_, _*_, _/_, _%_, _<_, _≤_}
 use mathlib.Core.Path.{_≡_, refl, ap}
 use mathlib.Core.Logic.{⊎-elim}
@@ -14,7 +14,7 @@ use Rattle.ascii_lines.specs.Numbers.{digit, decimal, decimalIn}
 pub digit-small : (d : ℕ) → d < 10 → digit d ≡ 48 + d
 digit-small d h = rw (lt-ltb d 10 h)
 
--- with any number of steps from n on, the digits are the same
+-- any number of steps from n on gives the same digits
 enough : (j k n : ℕ) → n ≤ j → n ≤ k → decimalIn j n ≡ decimalIn k n
 unfolding decimalIn
 enough zero zero n h l = refl
@@ -35,7 +35,7 @@ decimal-more (suc n) h =
     simp (le-ltb (suc n) 10 h)
     (ap (λ (x : List ℕ). x ++ digit (suc n % 10) ∷ []) (enough n (suc n / 10) (suc n / 10) (omega arith) (omega arith)))
 
--- ---- the number that decimal digits say, read on from one
+-- ---- the number that decimal digits mean, appended to a number read before
 unfoldable pub readOn : ℕ → List ℕ → ℕ
 readOn n [] = n
 readOn n (d ∷ ds) = readOn (n * 10 + (d - 48)) ds
@@ -53,7 +53,7 @@ read-in (suc k) n h =
     (λ l. rw (le-ltb n 10 l, read-append 0 (decimalIn k (n / 10)) (digit (n % 10) ∷ []), read-in k (n / 10) (omega arith), digit-small (n % 10) (omega arith)) (omega arith))
     (below n 10)
 
--- THE DIGITS OF A NUMBER SAY IT
+-- READING THE DIGITS OF A NUMBER gives the number
 pub decimal-read : (n : ℕ) → readOn 0 (decimal n) ≡ n
 unfolding decimal
 decimal-read n = read-in n n (omega arith)

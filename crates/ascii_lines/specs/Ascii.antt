@@ -1,4 +1,4 @@
--- A text between quotes, as its bytes.
+-- A quoted text as its bytes.
 use Prim.Native.Nat.{ℕ}
 use Prim.Native.Char.{code}
 use Prim.Native.String.{String}

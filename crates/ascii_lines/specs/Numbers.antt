@@ -15,7 +15,7 @@ unfoldable pub decimalIn : ℕ → ℕ → List ℕ
 decimalIn zero n = digit n ∷ []
 decimalIn (suc most) n = pick (ltb n 10) (digit n ∷ []) (decimalIn most (n / 10) ++ digit (n % 10) ∷ [])
 
--- the decimal digits of n: n steps are enough, since a tenth of n is less than n
+-- the decimal digits of n; n steps are enough, since n / 10 is less than n
 unfoldable pub decimal : ℕ → List ℕ
 decimal n = decimalIn n n
 
@@ -23,14 +23,15 @@ decimal n = decimalIn n n
 abbrev pub hexByte : ℕ → List ℕ
 hexByte b = digit (b / 16) ∷ digit (b % 16) ∷ []
 
--- a number in decimal, with a space before it, and each of a list so
+-- a number in decimal after a space
 abbrev pub number : ℕ → List ℕ
 number n = ascii " " ++ decimal n
 
+-- several numbers, each after a space
 abbrev pub numbers : List ℕ → List ℕ
 numbers ns = each number ns
 
--- bytes in hex, or `-` where there are none
-unfoldable pub shown : List ℕ → List ℕ
-shown [] = ascii "-"
-shown (b ∷ bs) = each hexByte (b ∷ bs)
+-- bytes in hex; `-` if there are none
+unfoldable pub hexOrDash : List ℕ → List ℕ
+hexOrDash [] = ascii "-"
+hexOrDash (b ∷ bs) = each hexByte (b ∷ bs)

@@ -1,4 +1,4 @@
--- A page: a buffer, and the place in it where the next byte goes.
+-- Writing into a page.
 use Prim.Native.Nat.{ℕ, _+_}
 use mathlib.Core.Path.{_≡_}
 use mathlib.Core.List.{List, [], _∷_}
@@ -6,6 +6,7 @@ use lib.ListN.{length, set}
 use lib.Dec.{ltb}
 use Rattle.laws.specs.Pick.{pick}
 
+-- a buffer, and the place in it where the next byte goes
 pub record Page : Type 0 where
   pub at : ℕ
   pub out : List ℕ
@@ -13,15 +14,15 @@ pub record Page : Type 0 where
 abbrev pub page : ℕ → List ℕ → Page
 page i o = record { at = i; out = o }
 
--- a byte put: it stands at the place, which moves on by one; a page that is full stays as it is
-unfoldable pub put : Page → ℕ → Page
-put s b = pick (ltb (s .at) (length (s .out))) (page (s .at + 1) (set (s .out) (s .at) b)) s
+-- the page after a byte: stored at the place, which moves on by one; a full page is unchanged
+unfoldable pub putByte : Page → ℕ → Page
+putByte s b = pick (ltb (s .at) (length (s .out))) (page (s .at + 1) (set (s .out) (s .at) b)) s
 
--- a text put, byte by byte
-unfoldable pub puts : Page → List ℕ → Page
-puts s [] = s
-puts s (b ∷ bs) = puts (put s b) bs
+-- the page after a text, byte by byte
+unfoldable pub putBytes : Page → List ℕ → Page
+putBytes s [] = s
+putBytes s (b ∷ bs) = putBytes (putByte s b) bs
 
--- WHAT A WRITER PROMISES: from place i of the buffer o it put the text, which left the place j and the buffer p
+-- THE CONTRACT OF A WRITER: putting the text at place i of buffer o gives place j and buffer p
 pub record Wrote (i : ℕ) (o text : List ℕ) (j : ℕ) (p : List ℕ) : Type 0 where
-  pub is : page j p ≡ puts (page i o) text
+  pub is : page j p ≡ putBytes (page i o) text

@@ -1,5 +1,4 @@
-// Text put into a lent buffer from a place on: bytes, names, and numbers in decimal and in hex.
-// Each function answers the place after what it put. What does not fit is dropped, and the place stays at the end.
+// Writing ASCII into a lent buffer. Each function returns the place after what it wrote; what does not fit is dropped, and the place stays at the end.
 ghost use mathlib.Core.Path.{_≡_};
 ghost use mathlib.Core.List.{[], _∷_, _++_};
 ghost use Prim.Native.Nat.{_<_};
@@ -7,6 +6,7 @@ ghost use lib.ListN.{length};
 ghost use Rattle.ascii_lines.specs.Page.{Wrote};
 ghost use Rattle.ascii_lines.specs.Numbers.{decimal, digit, hexByte, number, numbers};
 
+// Writes one byte.
 pub fn put_byte(out: &mut [u8], at: usize, byte: u8) -> usize
     ensures { λ r. ⌜ Wrote at (now (out .entry)) (byte ∷ []) r (now (out .exit)) ⌝ }
 {
@@ -17,6 +17,7 @@ pub fn put_byte(out: &mut [u8], at: usize, byte: u8) -> usize
     at
 }
 
+// Writes the bytes of a text.
 pub fn put_text(out: &mut [u8], at: usize, text: &[u8]) -> usize
     ensures { λ r. ⌜ Wrote at (now (out .entry)) (now (text .entry)) r (now (out .exit)) ⌝ }
 {
@@ -53,7 +54,7 @@ fn digits_of(n: u64) -> usize
     count
 }
 
-// A number's decimal digits, the highest first. They are put from the last on, since that is how they come.
+// Writes a number in decimal. The digits are stored from the last to the first, the order in which division gives them.
 pub fn put_decimal(out: &mut [u8], at: usize, n: u64) -> usize
     ensures { λ r. ⌜ Wrote at (now (out .entry)) (decimal n) r (now (out .exit)) ⌝ }
 {
@@ -74,7 +75,7 @@ pub fn put_decimal(out: &mut [u8], at: usize, n: u64) -> usize
     at + count
 }
 
-// A byte's two digits, in lower-case hex.
+// Writes a byte's two digits in lower-case hex.
 pub fn put_hex(out: &mut [u8], at: usize, byte: u8) -> usize
     ensures { λ r. ⌜ Wrote at (now (out .entry)) (hexByte byte) r (now (out .exit)) ⌝ }
 {
@@ -82,7 +83,7 @@ pub fn put_hex(out: &mut [u8], at: usize, byte: u8) -> usize
     put_byte(out, p, digit(byte % 16))
 }
 
-// A space, and a number in decimal.
+// Writes a space and a number in decimal.
 pub fn put_number(out: &mut [u8], at: usize, n: u64) -> usize
     ensures { λ r. ⌜ Wrote at (now (out .entry)) (number n) r (now (out .exit)) ⌝ }
 {
@@ -90,7 +91,7 @@ pub fn put_number(out: &mut [u8], at: usize, n: u64) -> usize
     put_decimal(out, p, n)
 }
 
-// Each number in decimal, with a space before it.
+// Writes each number in decimal, with a space before it.
 pub fn put_numbers(out: &mut [u8], at: usize, ns: &[u64]) -> usize
     ensures { λ r. ⌜ Wrote at (now (out .entry)) (numbers (now (ns .entry))) r (now (out .exit)) ⌝ }
 {
@@ -103,7 +104,7 @@ pub fn put_numbers(out: &mut [u8], at: usize, ns: &[u64]) -> usize
     p
 }
 
-// A name, and numbers after it.
+// Writes a name, and numbers after it.
 pub fn put_named(out: &mut [u8], at: usize, name: &[u8], ns: &[u64]) -> usize
     ensures { λ r. ⌜ Wrote at (now (out .entry)) (now (name .entry) ++ numbers (now (ns .entry))) r (now (out .exit)) ⌝ }
 {

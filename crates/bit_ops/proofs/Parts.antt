@@ -1,4 +1,4 @@
--- Laws of a part, over its stride and its span: got and put, parts apart. Closed by the laws of a field, at the part's place.
+-- Laws of reading and writing a part of a word, for any stride and span. They follow from the laws of a field at the part's lowest bit.
 use Prim.Native.Nat.{ℕ, _+_, _*_, _/_, _^_, _<_, _≤_}
 use mathlib.Core.Bool.{Bool, true, false}
 use mathlib.Core.Path.{_≡_, refl, sym, ap, _∙_}
@@ -19,7 +19,7 @@ in-word stride i h =
     let m : stride * (i + 1) ≤ stride * (32 / stride) = mul-le-mul-left stride (omega arith) in
     omega (arith, mul-div-le 32 stride)
 
--- a part further from the highest begins a stride lower, or more
+-- a later part lies at least one stride lower
 lower : (stride span i k : ℕ) → span ≤ stride → i < k → k < partsOf stride → lowestBit stride k + span ≤ lowestBit stride i
 lower stride span i k s h hk =
     let m : stride * (i + 2) ≤ stride * (k + 1) = mul-le-mul-left stride (omega arith) in
@@ -36,7 +36,7 @@ pub bit-byte : (b : Bool) → boolByte b ≡ bitOf b
 bit-byte true = refl
 bit-byte false = refl
 
--- ---- one law a case
+-- ---- one law for each case
 module _ (stride span w i : ℕ) where
   part-in : i < partsOf stride → partIn stride span w i ≡ fieldOf w (lowestBit stride i) span
   unfolding partIn
@@ -65,7 +65,7 @@ module _ (stride span w i : ℕ) where
       (λ (h : partsOf stride ≤ i). rw (part-out h) (pow-pos span))
       (below i (partsOf stride))
 
-  -- what is got at the place of a part is the part
+  -- the field at a part's lowest bit is the part
   pub part-at : (at r : ℕ) → i < partsOf stride → at ≡ lowestBit stride i → r ≡ fieldOf w at span → (r ≡ partIn stride span w i) × (r < 2 ^ span)
   part-at at r h e g =
       let q : r ≡ partIn stride span w i = g ∙ ap (λ (a : ℕ). fieldOf w a span) e ∙ sym (part-in h) in
@@ -74,9 +74,9 @@ module _ (stride span w i : ℕ) where
   pub put-at : (v at r : ℕ) → i < partsOf stride → v < 2 ^ span → at ≡ lowestBit stride i → r ≡ putField w at span v → r ≡ putPart stride span w i v
   put-at v at r h hv e p = p ∙ ap (λ (a : ℕ). putField w a span v) e ∙ sym (put-in v h hv)
 
--- ---- what was put, and what was left
+-- ---- what a put changes, and what it keeps
 module _ (stride span w i v : ℕ) where
-  -- what holds of the word with the field put, and of the word as it was, holds of the word with the part put
+  -- a property of the word with the field put, and of the unchanged word, is a property of the word with the part put
   either : (P : ℕ → Type 0) → (i < partsOf stride → v < 2 ^ span → P (putField w (lowestBit stride i) span v)) → P w → P (putPart stride span w i v)
   either P f k =
       ⊎-elim
@@ -85,15 +85,15 @@ module _ (stride span w i v : ℕ) where
       (λ (h : partsOf stride ≤ i). rw (put-out stride span w i v h) k)
       (below i (partsOf stride))
 
-  -- what was put is got
+  -- reading a part gives what was put there
   pub part-put : i < partsOf stride → v < 2 ^ span → partIn stride span (putPart stride span w i v) i ≡ v
   part-put h hv = rw (put-in stride span w i v h hv, part-in stride span _ i h) (bits.get-put w (lowestBit stride i) span v hv)
 
-  -- a field that shares no bit with the part is kept
+  -- a field that shares no bit with the part is unchanged
   pub put-apart : (at′ span′ : ℕ) → bits.Apart (lowestBit stride i) span at′ span′ → fieldOf (putPart stride span w i v) at′ span′ ≡ fieldOf w at′ span′
   put-apart at′ span′ a = either (λ (x : ℕ). fieldOf x at′ span′ ≡ fieldOf w at′ span′) (λ h hv. bits.get-other w (lowestBit stride i) span v at′ span′ hv a) refl
 
-  -- so is every other part
+  -- every other part is unchanged
   pub part-other : (k : ℕ) → span ≤ stride → (i ≡ k → ⊥) → partIn stride span (putPart stride span w i v) k ≡ partIn stride span w k
   part-other k s n =
       either (λ (x : ℕ). partIn stride span x k ≡ partIn stride span w k)
@@ -104,11 +104,11 @@ module _ (stride span w i v : ℕ) where
       (below k (partsOf stride)))
       refl
 
-  -- a word stays one
+  -- the result is a word
   pub put-word : span ≤ stride → w < 2 ^ 32 → putPart stride span w i v < 2 ^ 32
   put-word s hw = either (λ (x : ℕ). x < 2 ^ 32) (λ h hv. bits.put-lt w (lowestBit stride i) span v hw (omega (arith, in-word stride i h)) hv) hw
 
--- what is in a part is put: nothing changes
+-- putting back what a part holds changes nothing
 pub part-back : (stride span w i : ℕ) → putPart stride span w i (partIn stride span w i) ≡ w
 part-back stride span w i =
     ⊎-elim
@@ -116,7 +116,7 @@ part-back stride span w i =
     (λ (h : partsOf stride ≤ i). put-out stride span w i _ h)
     (below i (partsOf stride))
 
--- the last put is the one that counts
+-- the last put into a part wins
 pub part-over : (stride span w i u v : ℕ) → v < 2 ^ span → putPart stride span (putPart stride span w i u) i v ≡ putPart stride span w i v
 part-over stride span w i u v hv =
     either stride span w i u (λ (x : ℕ). putPart stride span x i v ≡ putPart stride span w i v)

@@ -1,4 +1,4 @@
--- Shifts of a 32-bit word that lose no bit, and a field put by them. Closed by `put-sum`.
+-- Shifts of a 32-bit word that lose no bit, and a field put by them. From `put-sum`.
 use Prim.Native.Nat.{ℕ, _+_, _-_, _*_, _/_, _%_, _^_, _<_, _≤_}
 use mathlib.Core.Path.{_≡_}
 use native.Mathlib.Omega.{arith}
@@ -8,7 +8,7 @@ use Rattle.laws.specs.Bits.{fieldOf, putField}
 use Rattle.laws.proofs.Bits.{put-sum, put-lt}
 
 module _ (w at span v r : ℕ) (fits : at + span ≤ 32) (hv : v < 2 ^ span) (got : r ≡ fieldOf w at span) where
-  -- what was there and what is to be there, shifted to their place
+  -- the old and the new value of the field, shifted to its place
   old-shl : r * 2 ^ at % 2 ^ 32 ≡ fieldOf w at span * 2 ^ at
   old-shl = rw got (shl-exact span at 32 (mod-lt (w / 2 ^ at) (pow-pos span)) (omega arith))
 

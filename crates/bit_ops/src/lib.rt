@@ -1,5 +1,4 @@
-// The parts of a 32-bit word: bits, crumbs, nibbles, septets, octets and words of 16 bits, each got and set by its number from the highest.
-// There is no part at a number out of range: it is got as 0, and setting it changes nothing. Nor does a value too large for its part.
+// The parts of a 32-bit word, numbered from the highest. An index out of range reads 0 and writes nothing; a value too large for its part is not written.
 
 ghost use mathlib.Core.Path.{_≡_};
 ghost use Prim.Native.Nat.{_+_, _^_, _<_, _≤_};
@@ -8,30 +7,30 @@ ghost use Rattle.laws.specs.Bits.{fieldOf, putField};
 ghost use Rattle.bit_ops.specs.Parts.{IsPart, partsOf, lowestBit, partIn, putPart, bitOf};
 
 // The `span` bits from bit `at` on.
-fn get(w: u32, at: usize, span: usize) -> u32
+fn get_bits(w: u32, at: usize, span: usize) -> u32
     requires { ⌜ (at < 32) × (span < 32) ⌝ }
     ensures { λ r. ⌜ r ≡ fieldOf w at span ⌝ }
 {
     (w >> at) % (1 << span)
 }
 
-// The word with those bits set.
-fn put(w: u32, at: usize, span: usize, v: u32) -> u32
+// The word with `v` in these bits.
+fn put_bits(w: u32, at: usize, span: usize, v: u32) -> u32
     requires { ⌜ (at < 32) × (span < 32) × (at + span ≤ 32) × (v < 2 ^ span) ⌝ }
     ensures { λ r. ⌜ r ≡ putField w at span v ⌝ }
 {
-    w - (get(w, at, span) << at) + (v << at)
+    w - (get_bits(w, at, span) << at) + (v << at)
 }
 
-// The lowest bit of a part.
-fn place(stride: usize, index: usize) -> usize
+// The lowest bit of part `index`.
+fn lowest_bit(stride: usize, index: usize) -> usize
     requires { ⌜ index < partsOf stride ⌝ }
     ensures { λ r. ⌜ r ≡ lowestBit stride index ⌝ }
 {
     32 - stride * (index + 1)
 }
 
-// A part, by its stride and its span. `small` is what lets it be cast to a narrower number.
+// Part `index`, for any stride and span. `small` lets callers cast it to a narrower type.
 fn part(w: u32, stride: usize, span: usize, index: usize) -> u32
     requires { ⌜ IsPart stride span ⌝ }
     ensures { λ r. ⌜ r ≡ partIn stride span w index ⌝ }
@@ -40,10 +39,10 @@ fn part(w: u32, stride: usize, span: usize, index: usize) -> u32
     if 32 / stride <= index {
         return 0;
     }
-    get(w, place(stride, index), span)
+    get_bits(w, lowest_bit(stride, index), span)
 }
 
-// The word with that part set.
+// The word with part `index` set to `v`.
 fn set_part(w: u32, stride: usize, span: usize, index: usize, v: u32) -> u32
     requires { ⌜ IsPart stride span ⌝ }
     ensures { λ r. ⌜ r ≡ putPart stride span w index v ⌝ }
@@ -54,7 +53,7 @@ fn set_part(w: u32, stride: usize, span: usize, index: usize, v: u32) -> u32
     if 1 << span <= v {
         return w;
     }
-    put(w, place(stride, index), span, v)
+    put_bits(w, lowest_bit(stride, index), span, v)
 }
 
 // ---- one bit, as a bool

@@ -1,4 +1,4 @@
--- Numbers in septets, one a turn. Closed by taking the list apart where the turn stands.
+-- Numbers in septets, one in each turn of a loop. Proved by splitting the list at the current element.
 use Prim.Native.Nat.{ℕ, suc, _+_, _-_, _*_, _<_, _≤_}
 use mathlib.Core.Path.{_≡_, ap, _∙_}
 use mathlib.Core.Bool.{true, false}
@@ -28,7 +28,7 @@ module _ (xs : List ℕ) (i : ℕ) where
   unfolding putSeptets
   septets-last word octet ws h = rw (drop-of-length-le xs h)
 
--- one number more, below those that are put
+-- one more number, before those already put
 pub septet-put : (xs ws : List ℕ) (word octet i : ℕ) → 0 < i → i ≤ length xs → putIn word (24 - (octet + (i - 1)) * 8) 7 (getD xs (i - 1) 0) (putSeptets word (octet + i) (drop i xs) ws) ≡ putSeptets word (octet + (i - 1)) (drop (i - 1) xs) ws
 unfolding putSeptets
 septet-put xs ws word octet i p h =
@@ -37,7 +37,7 @@ septet-put xs ws word octet i p h =
     let f : i ≡ suc (i - 1) = omega arith in
     ap (λ (a : ℕ). put a i) e ∙ ap (λ (b : ℕ). put (suc (octet + (i - 1))) b) f ∙ rw (drop-cons xs (i - 1) 0 (omega arith))
 
--- where they are put
+-- when the numbers are put
 module _ (word octet : ℕ) (xs ws : List ℕ) where
   pub septets-out : 4 < octet + length xs → ws ≡ fillSeptets word octet xs ws
   unfolding fillSeptets

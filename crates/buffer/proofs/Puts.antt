@@ -1,4 +1,4 @@
--- A field put by products and remainders, and where an act is done. Closed by `put-lt`, cases on the tests, and induction on the table.
+-- A field put by products and remainders, and when an act changes the buffer. From `put-lt`, by cases on the tests, and by induction on the table.
 use Prim.Native.Nat.{ℕ, _+_, _-_, _*_, _/_, _%_, _^_, _<_, _≤_}
 use mathlib.Core.Path.{_≡_, refl, ap, _∙_, fun-ext}
 use mathlib.Core.Bool.{true}
@@ -10,23 +10,23 @@ use Rattle.laws.proofs.Pick.{both-left, both-right}
 use Rattle.laws.specs.Bits.{putField}
 use Rattle.laws.proofs.Bits.{put-lt}
 use Rattle.text.specs.Written.{written, eachFirst}
-use Rattle.slots.specs.Slots.{Slot, put, putAll, fits, within}
-use Rattle.buffer.specs.Filling.{putSafe, putIn, putEach, formatted, fillText, putIns}
+use Rattle.slots.specs.Slots.{Slot, put, putAll, fits, bitsWithin}
+use Rattle.buffer.specs.Filling.{putIfFits, putIn, putEach, formatted, fillText, putIns}
 
 module _ (w at span v : ℕ) where
-  pub safe-put : at + span ≤ 32 → v < 2 ^ span → putSafe w at span v ≡ putField w at span v
-  unfolding putSafe
-  safe-put h hv = rw (le-ltb 32 (at + span) h, lt-ltb v (2 ^ span) hv)
+  pub put-fitting : at + span ≤ 32 → v < 2 ^ span → putIfFits w at span v ≡ putField w at span v
+  unfolding putIfFits
+  put-fitting h hv = rw (le-ltb 32 (at + span) h, lt-ltb v (2 ^ span) hv)
 
-  pub safe-out : 32 < at + span → w ≡ putSafe w at span v
-  unfolding putSafe
-  safe-out h = rw (lt-ltb 32 (at + span) h)
+  pub put-outside : 32 < at + span → w ≡ putIfFits w at span v
+  unfolding putIfFits
+  put-outside h = rw (lt-ltb 32 (at + span) h)
 
-  pub safe-large : at + span ≤ 32 → 2 ^ span ≤ v → w ≡ putSafe w at span v
-  unfolding putSafe
-  safe-large h hv = rw (le-ltb 32 (at + span) h, le-ltb v (2 ^ span) hv)
+  pub put-too-large : at + span ≤ 32 → 2 ^ span ≤ v → w ≡ putIfFits w at span v
+  unfolding putIfFits
+  put-too-large h hv = rw (le-ltb 32 (at + span) h, le-ltb v (2 ^ span) hv)
 
--- the sum that makes a put, by the powers of its lowest bit and of the bit above it
+-- the powers of two that a put is computed with
 pub record Powers (at span low top : ℕ) : Type 0 where
   pub lowest : low ≡ 2 ^ at
   pub above : top ≡ 2 ^ (at + span)
@@ -43,26 +43,26 @@ module _ {at span low top : ℕ} (p : Powers at span low top) where
     pub put-is : w / top * top + v * low + w % low ≡ putField w at span v
     put-is = rw (p .lowest, p .above)
 
-    pub put-word : w < 2 ^ 32 → v < 2 ^ span → w / top * top + v * low + w % low < 2 ^ 32
-    put-word hw hv = rw put-is (put-lt w at span v hw (p .within) hv)
+    pub put-in-word : w < 2 ^ 32 → v < 2 ^ span → w / top * top + v * low + w % low < 2 ^ 32
+    put-in-word hw hv = rw put-is (put-lt w at span v hw (p .within) hv)
 
--- a put in one word of a buffer is the slot's
+-- a put into one word of a buffer is a put into the slot
 pub in-put : {K : Type 0} (s : Slot K) (v : ℕ) (ws : List ℕ) → s .at + s .span ≤ 32 → v < 2 ^ s .span → putIn (s .word) (s .at) (s .span) v ws ≡ put s v ws
 unfolding putIn put
-in-put s v ws h hv = ap (set ws (s .word)) (safe-put (getD ws (s .word) 0) (s .at) (s .span) v h hv)
+in-put s v ws h hv = ap (set ws (s .word)) (put-fitting (getD ws (s .word) 0) (s .at) (s .span) v h hv)
 
 -- ---- a table put slot by slot
-pub ins-put : {K : Type 0} (ss : List (Slot K)) (v : K → ℕ) (ws : List ℕ) → within 32 ss ≡ true → fits ss v ≡ true → putIns ss v ws ≡ putAll ss v ws
-unfolding putIns within putAll fits
+pub ins-put : {K : Type 0} (ss : List (Slot K)) (v : K → ℕ) (ws : List ℕ) → bitsWithin 32 ss ≡ true → fits ss v ≡ true → putIns ss v ws ≡ putAll ss v ws
+unfolding putIns bitsWithin putAll fits
 ins-put [] v ws w f = refl
 ins-put (s ∷ ss) v ws w f =
     ap (putIn (s .word) (s .at) (s .span) (v (s .key))) (ins-put ss v ws (both-right _ _ w) (both-right _ _ f)) ∙ in-put s (v (s .key)) (putAll ss v ws) (leb-true _ _ (both-left _ _ w)) (ltb-true _ _ (both-left _ _ f))
 
--- ---- where the other acts are done
+-- ---- when the other acts are done
 pub each-put : (n at span v : ℕ) (ws : List ℕ) → n ≤ length ws / 4 → at + span ≤ 32 → v < 2 ^ span → putEach n at span v ws ≡ eachFirst n (λ w. putField w at span v) ws
 unfolding putEach
 each-put n at span v ws l h hv =
-    rw (le-ltb (length ws / 4) n l) (ap (λ (f : ℕ → ℕ). eachFirst n f ws) (fun-ext (λ w. safe-put w at span v h hv)))
+    rw (le-ltb (length ws / 4) n l) (ap (λ (f : ℕ → ℕ). eachFirst n f ws) (fun-ext (λ w. put-fitting w at span v h hv)))
 
 pub text-filled : (text : List ℕ) (offset head n : ℕ) (ws : List ℕ) → offset < 14 → n ≤ 64 → fillText text offset head n ws ≡ written ws text (formatted head) (14 - offset) n
 unfolding fillText

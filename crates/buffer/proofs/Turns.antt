@@ -1,4 +1,4 @@
--- The turns of a loop that fills a buffer: its first words are f's, the others as found. Closed by the laws of `upTo`.
+-- One turn of a loop that fills a buffer: the first words are the values of f, the others are unchanged. From the laws of `upTo`.
 use Prim.Native.Nat.{ℕ, zero, suc, _+_, _*_, _/_, _%_, _<_, _≤_}
 use mathlib.Core.Path.{_≡_, refl, sym, ap, _∙_}
 use mathlib.Core.Logic.{⊎-elim}
@@ -29,28 +29,28 @@ pub is-filled : (i : ℕ) (f : ℕ → ℕ) (found ws : List ℕ) → ws ≡ upT
 is-filled i f found ws e = record { long = rw e (length-upTo i f found); is = e }
 
 module _ {i : ℕ} {f : ℕ → ℕ} {found ws : List ℕ} (w : Filled i f found ws) where
-  -- from i on the buffer is as found
+  -- the words from i on are unchanged
   pub filled-rest : (k : ℕ) → i ≤ k → getD ws k 0 ≡ getD found k 0
   filled-rest k h = rw (w .is) (upTo-rest i f found k h)
 
-  -- one word more
+  -- one more word
   pub more-filled : (a : ℕ) → i < length found → a ≡ f i → Filled (i + 1) f found (set ws i a)
   more-filled a h e = record { long = simp length-set (w .long); is = rw (w .is, e) (upTo-more i f found h) }
 
-  -- a word that f leaves
+  -- a word that f leaves unchanged
   pub kept-filled : i < length found → f i ≡ getD found i 0 → Filled (suc i) f found ws
   kept-filled h e = record { long = w .long; is = w .is ∙ sym (upTo-kept i f found h e) }
 
-  -- the last turn
+  -- after the last turn
   pub all-filled : (j : ℕ) → i ≡ j → ws ≡ upTo j f found
   all-filled j e = rw (← e) (w .is)
 
--- nothing filled yet, where f leaves the first i words
+-- at the start, if f leaves the first i words unchanged
 pub found-filled : (i : ℕ) (f : ℕ → ℕ) (ws : List ℕ) → i ≤ length ws → ((k : ℕ) → k < i → f k ≡ getD ws k 0) → Filled i f ws ws
 found-filled zero f ws l h = none-filled f ws
 found-filled (suc i) f ws l h = kept-filled (found-filled i f ws (omega arith) (λ k m. h k (omega arith))) (omega arith) (h i (omega arith))
 
--- four words more
+-- four more words
 pub four-filled : {f : ℕ → ℕ} {found ws : List ℕ} (g : ℕ → ℕ) (k : ℕ) → Filled k f found ws → k + 4 ≤ length found → g 0 ≡ f k → g 1 ≡ f (k + 1) → g 2 ≡ f (k + 2) → g 3 ≡ f (k + 3) → Filled (k + 4) f found (setFour g k ws)
 four-filled {f} {found} g k w h e₀ e₁ e₂ e₃ =
     let s₂ : k + 1 + 1 ≡ k + 2 = omega arith in
@@ -61,7 +61,7 @@ four-filled {f} {found} g k w h e₀ e₁ e₂ e₃ =
     let three = (rw s₃ at (more-filled two (g 2) (omega arith) e₂)) in
     rw s₄ at (more-filled three (g 3) (omega arith) e₃)
 
--- the packet's words
+-- the four words of a packet
 pub text-more : (text : List ℕ) (head : ℕ → ℕ) (cap n p : ℕ) {found ws : List ℕ} → Filled (p * 4) (wordNew text head cap n) found ws → p < n → p * 4 + 4 ≤ length found → Filled ((p + 1) * 4) (wordNew text head cap n) found (setFour (wordIn text head cap n p) (p * 4) ws)
 text-more text head cap n p {found} {ws} w h l =
     let m : p * 4 + 4 ≡ (p + 1) * 4 = omega arith in
@@ -70,7 +70,7 @@ text-more text head cap n p {found} {ws} w h l =
     (four-filled {f = wordNew text head cap n} {found = found} {ws = ws} (wordIn text head cap n p) (p * 4) w l
     (sym (rw (add-zero (p * 4)) at z)) (sym (word-packet text head cap n p 1 h (omega arith))) (sym (word-packet text head cap n p 2 h (omega arith))) (sym (word-packet text head cap n p 3 h (omega arith))))
 
--- what is filled up to word i, and zero from there on
+-- filled up to word i, and zero from there on
 module _ (f : ℕ → ℕ) (i : ℕ) (ws : List ℕ) (l : i ≤ wholeWords ws) (z : (k : ℕ) → i ≤ k → 0 ≡ f k) where
   abbrev cleared : ℕ → ℕ
   cleared k = pick (ltb k i) (getD (upTo i f ws) k 0) 0
@@ -118,7 +118,7 @@ module _ (change : ℕ → ℕ) (ws : List ℕ) (k : ℕ) where
   no-first : (k % 4 ≡ 0 → ⊥) → firsts change ws k ≡ getD ws k 0
   no-first h = rw (ne-eqb (k % 4) 0 h)
 
--- one packet more
+-- one more packet
 pub packet-filled : (change : ℕ → ℕ) {found ws : List ℕ} (p a : ℕ) → Filled (p * 4) (firsts change found) found ws → (p + 1) * 4 ≤ length found → a ≡ change (getD ws (p * 4) 0) → Filled ((p + 1) * 4) (firsts change found) found (set ws (p * 4) a)
 packet-filled change {found} {ws} p a w h e =
     let q : a ≡ firsts change found (p * 4) = e ∙ ap change (filled-rest w (p * 4) (omega arith)) ∙ sym (is-first change found (p * 4) (omega arith)) in

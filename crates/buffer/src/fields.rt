@@ -1,31 +1,31 @@
-// A number put into the bits of a word: in one word of a buffer, or in the first word of each of some packets.
+// Putting a number into a field: of a word, of one word of a buffer, or of the first word of each of some packets.
 ghost use mathlib.Core.Path.{_≡_};
 ghost use Prim.Native.Nat.{_^_, _≤_};
 ghost use lib.Dec.{leb};
-ghost use Rattle.buffer.specs.Filling.{putSafe, putIn, putEach};
+ghost use Rattle.buffer.specs.Filling.{putIfFits, putIn, putEach};
 use counts::PacketNumber;
 
-// The number whose only bit is bit `k`.
-fn power(k: usize) -> u64
+// 2 to the power of `k`.
+fn power_of_two(k: usize) -> u64
     requires { ⌜ k ≤ 32 ⌝ }
     ensures { λ r. ⌜ r ≡ 2 ^ k ⌝ }
 {
     1 << k
 }
 
-// Whether a number is above the largest of so many bits.
+// Whether `v` needs more than `span` bits.
 pub fn too_large(span: usize, v: u32) -> bool
     ensures { λ r. ⌜ r ≡ leb (2 ^ span) v ⌝ }
 {
     if 32 <= span {
         return false;
     }
-    power(span) <= v as u64
+    power_of_two(span) <= v as u64
 }
 
-// The word with a number in the `span` bits from bit `at` on.
+// The word with `v` in the `span` bits from bit `at` on. Unchanged if that is impossible.
 pub fn with_field(w: u32, at: usize, span: usize, v: u32) -> u32
-    ensures { λ r. ⌜ r ≡ putSafe w at span v ⌝ }
+    ensures { λ r. ⌜ r ≡ putIfFits w at span v ⌝ }
 {
     if 32 < at {
         return w;
@@ -38,8 +38,8 @@ pub fn with_field(w: u32, at: usize, span: usize, v: u32) -> u32
     }
     let x = w as u64;
     let y = v as u64;
-    let low = power(at);
-    let top = power(at + span);
+    let low = power_of_two(at);
+    let top = power_of_two(at + span);
     (x / top * top + y * low + x % low) as u32
 }
 
@@ -52,7 +52,7 @@ pub fn put_field(words: &mut [u32], word: usize, at: usize, span: usize, v: u32)
     }
 }
 
-// The same in the first word of each of some packets, and in no word after them.
+// The same in the first word of each of some packets.
 pub fn put_each(words: &mut [u32], packets: PacketNumber, at: usize, span: usize, v: u32)
     ensures { λ _. ⌜ now (words .exit) ≡ putEach (packets .0) at span v (now (words .entry)) ⌝ }
 {

@@ -1,4 +1,4 @@
-// The acts on a lent buffer: a number put into a field, every packet made zero, text written. An act that cannot be done changes nothing.
+// Changes to a lent buffer: putting a number into a field, clearing packets, writing text. A change that cannot be made leaves the buffer as it is.
 pub mod fields;
 pub mod packets;
 pub mod septets;

@@ -1,10 +1,10 @@
-// Whole packets of a buffer made zero: all of them, with a head in the first, or those from a word on.
+// Clearing the whole packets of a buffer.
 ghost use mathlib.Core.Path.{_≡_};
 ghost use Prim.Native.Nat.{_≤_};
 ghost use Rattle.text.specs.Written.{wholeWords, blank};
 ghost use Rattle.buffer.specs.Filling.{clearFrom};
 
-// Every word from word `from` on, up to the last whole packet's end.
+// Clears every word from word `from` on, up to the end of the last whole packet.
 pub(crate) fn clear_from(words: &mut [u32], from: usize)
     requires { ⌜ from ≤ wholeWords (now words) ⌝ }
     ensures { λ _. ⌜ now (words .exit) ≡ clearFrom from (now (words .entry)) ⌝ }
@@ -17,6 +17,7 @@ pub(crate) fn clear_from(words: &mut [u32], from: usize)
     }
 }
 
+// Clears every whole packet, and puts the head into the first.
 pub fn clear(words: &mut [u32], head: u32)
     ensures { λ _. ⌜ now (words .exit) ≡ blank head (now (words .entry)) ⌝ }
 {

@@ -19,7 +19,7 @@ pub fn are_septets(numbers: &[u32]) -> bool
     true
 }
 
-// The numbers put, from the octet of the first on: the last one first.
+// Puts the numbers into the octets from `octet` on, the last one first.
 fn put_each_septet(words: &mut [u32], word: usize, octet: usize, numbers: &[u32])
     requires { ⌜ octet + length (now numbers) ≤ 4 ⌝ }
     ensures { λ _. ⌜ now (words .exit) ≡ putSeptets word octet (now (numbers .entry)) (now (words .entry)) ⌝ }
@@ -31,7 +31,7 @@ fn put_each_septet(words: &mut [u32], word: usize, octet: usize, numbers: &[u32]
     }
 }
 
-// The same, where the word has so many octets.
+// The same. Unchanged if the word has too few octets.
 pub fn put_septets(words: &mut [u32], word: usize, octet: usize, numbers: &[u32])
     ensures { λ _. ⌜ now (words .exit) ≡ fillSeptets word octet (now (numbers .entry)) (now (words .entry)) ⌝ }
 {

@@ -1,26 +1,26 @@
-// Text written into every whole packet of a buffer: heads, then bytes, and zeros where the text has ended.
+// Writing text into the whole packets of a buffer: the head of each, the text, and zeros after its end.
 ghost use mathlib.Core.Path.{_≡_};
 ghost use Prim.Native.Nat.{_+_, _-_, _*_, _<_, _≤_};
 ghost use lib.ListN.{length, getD};
 ghost use Rattle.laws.specs.Bits.{wordOf};
 ghost use Rattle.laws.specs.Lists.{upTo};
-ghost use Rattle.text.specs.Octets.{due};
+ghost use Rattle.text.specs.Octets.{dueFormat};
 ghost use Rattle.text.specs.Written.{octetAt, wordIn, wordNew};
 ghost use Rattle.buffer.specs.Filling.{setFour, formatted, fillText};
 use crate::fields::with_field;
 use crate::packets::clear_from;
 use counts::PacketNumber;
-use text::joined::joined;
+use text::big_endian::big_endian;
 use text::packets::due_format;
 
 // The head of packet p of n.
 fn head_of(head: u32, n: usize, p: usize) -> u32
-    ensures { λ r. ⌜ r ≡ formatted head (due n p) ⌝ }
+    ensures { λ r. ⌜ r ≡ formatted head (dueFormat n p) ⌝ }
 {
     with_field(head, 26, 2, due_format(n, p) as u32)
 }
 
-// Byte i of the text, and 0 past its end.
+// Byte i of the text; 0 past its end.
 fn byte_at(text: &[u8], i: usize) -> u32
     ensures { λ r. ⌜ r ≡ getD (now (text .entry)) i 0 ⌝ }
     ensures small { λ r. ⌜ r < 256 ⌝ }
@@ -31,13 +31,13 @@ fn byte_at(text: &[u8], i: usize) -> u32
     0
 }
 
-// The four bytes from byte i on, at once where they are all there.
+// The four bytes of the text from byte i on as a word; 0 past its end.
 fn four_bytes(text: &[u8], i: usize) -> u32
     requires { ⌜ i < 1000 ⌝ }
     ensures { λ r. ⌜ r ≡ wordOf (getD (now (text .entry)) i 0) (getD (now (text .entry)) (i + 1) 0) (getD (now (text .entry)) (i + 2) 0) (getD (now (text .entry)) (i + 3) 0) ⌝ }
 {
     if i + 4 <= text.len() {
-        return joined(text, i);
+        return big_endian(text, i);
     }
     let a = byte_at(text, i);
     let b = byte_at(text, i + 1);
@@ -62,7 +62,7 @@ fn first_word(text: &[u8], offset: usize, head: u32, n: usize, p: usize) -> u32
     h
 }
 
-// Octet j, of sixteen, of packet p, past its first word: no head stands there.
+// Octet j, 4 to 15, of packet p. The head is in octets 0 to 3.
 fn octet_at(text: &[u8], offset: usize, p: usize, j: usize) -> u32
     requires { ⌜ (offset < 14) × (p < 64) × (4 ≤ j) × (j < 16) ⌝ }
     ensures { λ r. ⌜ r ≡ octetAt (now (text .entry)) (λ f. 0) (14 - offset) 0 p j ⌝ }
@@ -74,7 +74,7 @@ fn octet_at(text: &[u8], offset: usize, p: usize, j: usize) -> u32
     byte_at(text, p * (14 - offset) + (j - (2 + offset)))
 }
 
-// Word q, 1 to 3, of packet p, octet by octet where what stands before the text reaches into it.
+// Word q, 1 to 3, of packet p.
 fn later_word(text: &[u8], offset: usize, p: usize, q: usize) -> u32
     requires { ⌜ (offset < 14) × (p < 64) × (0 < q) × (q < 4) ⌝ }
     ensures { λ r. ⌜ r ≡ wordIn (now (text .entry)) (λ f. 0) (14 - offset) 0 p q ⌝ }
@@ -90,8 +90,8 @@ fn later_word(text: &[u8], offset: usize, p: usize, q: usize) -> u32
     a * 0x100_0000 + b * 0x1_0000 + c * 0x100 + d
 }
 
-// The four words of packet p of n.
-fn fill_packet(words: &mut [u32], text: &[u8], offset: usize, head: u32, n: usize, p: usize)
+// Writes the four words of packet p of n, for any offset.
+fn fill_any_packet(words: &mut [u32], text: &[u8], offset: usize, head: u32, n: usize, p: usize)
     requires { ⌜ (offset < 14) × (p < 64) × (p * 4 + 4 ≤ length (now words)) ⌝ }
     ensures { λ _. ⌜ now (words .exit) ≡ setFour (wordIn (now (text .entry)) (formatted head) (14 - offset) n p) (p * 4) (now (words .entry)) ⌝ }
 {
@@ -102,8 +102,8 @@ fn fill_packet(words: &mut [u32], text: &[u8], offset: usize, head: u32, n: usiz
     words[k + 3] = later_word(text, offset, p, 3);
 }
 
-// The same of a packet that the text fills, from octet 2 or 3 on: its later words are twelve bytes of the text.
-fn fill_whole(words: &mut [u32], text: &[u8], offset: usize, head: u32, n: usize, p: usize)
+// Writes packet p if the text fills it and starts at octet 2 or 3: the last three words are twelve bytes of the text.
+fn fill_full_packet(words: &mut [u32], text: &[u8], offset: usize, head: u32, n: usize, p: usize)
     requires { ⌜ (offset ≤ 1) × (p < 64) × (p * 4 + 4 ≤ length (now words)) × (p * (14 - offset) + (14 - offset) ≤ length (now text)) ⌝ }
     ensures { λ _. ⌜ now (words .exit) ≡ setFour (wordIn (now (text .entry)) (formatted head) (14 - offset) n p) (p * 4) (now (words .entry)) ⌝ }
 {
@@ -112,13 +112,13 @@ fn fill_whole(words: &mut [u32], text: &[u8], offset: usize, head: u32, n: usize
     let to = from + 12;
     let part = &text[from..to];
     words[k] = first_word(text, offset, head, n, p);
-    words[k + 1] = joined(part, 0);
-    words[k + 2] = joined(part, 4);
-    words[k + 3] = joined(part, 8);
+    words[k + 1] = big_endian(part, 0);
+    words[k + 2] = big_endian(part, 4);
+    words[k + 3] = big_endian(part, 8);
 }
 
-// Packets from the first on, of n, as far as the text fills them: how many.
-fn fill_wholes(words: &mut [u32], text: &[u8], offset: usize, head: u32, n: usize) -> usize
+// Writes packets from the first on as long as the text fills them. Returns how many.
+fn fill_full_packets(words: &mut [u32], text: &[u8], offset: usize, head: u32, n: usize) -> usize
     requires { ⌜ (offset ≤ 1) × (n ≤ 64) × (n * 4 ≤ length (now words)) ⌝ }
     ensures { λ r. ⌜ now (words .exit) ≡ upTo (r * 4) (wordNew (now (text .entry)) (formatted head) (14 - offset) n) (now (words .entry)) ⌝ }
     ensures within { λ r. ⌜ r ≤ n ⌝ }
@@ -129,15 +129,15 @@ fn fill_wholes(words: &mut [u32], text: &[u8], offset: usize, head: u32, n: usiz
         if text.len() < to {
             return p;
         }
-        fill_whole(words, text, offset, head, n, p);
+        fill_full_packet(words, text, offset, head, n, p);
         p += 1;
         to += 14 - offset;
     }
     p
 }
 
-// The same of a packet in which the text ends, or has ended: zeros past it.
-fn fill_last(words: &mut [u32], text: &[u8], offset: usize, head: u32, n: usize, p: usize)
+// Writes packet p if the text ends in it or before it: zeros after the text.
+fn fill_last_packet(words: &mut [u32], text: &[u8], offset: usize, head: u32, n: usize, p: usize)
     requires { ⌜ (offset ≤ 1) × (p < 64) × (p * 4 + 4 ≤ length (now words)) ⌝ }
     ensures { λ _. ⌜ now (words .exit) ≡ setFour (wordIn (now (text .entry)) (formatted head) (14 - offset) n p) (p * 4) (now (words .entry)) ⌝ }
 {
@@ -149,8 +149,8 @@ fn fill_last(words: &mut [u32], text: &[u8], offset: usize, head: u32, n: usize,
     words[k + 3] = four_bytes(text, from + 8);
 }
 
-// Packets from the first on, of n, up to the one in which the text ends: how many; none where the text starts past octet 3.
-fn fill_quick(words: &mut [u32], text: &[u8], offset: usize, head: u32, n: usize) -> usize
+// Writes packets from the first on, up to the one in which the text ends. Returns how many; 0 if the text starts after octet 3.
+fn fill_fast(words: &mut [u32], text: &[u8], offset: usize, head: u32, n: usize) -> usize
     requires { ⌜ (offset < 14) × (n ≤ 64) × (n * 4 ≤ length (now words)) ⌝ }
     ensures { λ r. ⌜ now (words .exit) ≡ upTo (r * 4) (wordNew (now (text .entry)) (formatted head) (14 - offset) n) (now (words .entry)) ⌝ }
     ensures within { λ r. ⌜ r ≤ n ⌝ }
@@ -158,38 +158,38 @@ fn fill_quick(words: &mut [u32], text: &[u8], offset: usize, head: u32, n: usize
     if 1 < offset {
         return 0;
     }
-    let p = fill_wholes(words, text, offset, head, n);
+    let p = fill_full_packets(words, text, offset, head, n);
     if p < n {
-        fill_last(words, text, offset, head, n, p);
+        fill_last_packet(words, text, offset, head, n, p);
         return p + 1;
     }
     p
 }
 
-// The first m of n packets.
+// Writes the first m of n packets.
 fn fill_packets(words: &mut [u32], text: &[u8], offset: usize, head: u32, n: usize, m: usize)
     requires { ⌜ (offset < 14) × (n ≤ 64) × (m ≤ n) × (m * 4 ≤ length (now words)) ⌝ }
     ensures { λ _. ⌜ now (words .exit) ≡ upTo (m * 4) (wordNew (now (text .entry)) (formatted head) (14 - offset) n) (now (words .entry)) ⌝ }
 {
     let mut p = 0;
     while p < m {
-        fill_packet(words, text, offset, head, n, p);
+        fill_any_packet(words, text, offset, head, n, p);
         p += 1;
     }
 }
 
-// All n packets: quickly, and from the first again where that does not reach the last.
+// Writes all n packets: fast if possible, otherwise one after the other from the first.
 fn fill_all(words: &mut [u32], text: &[u8], offset: usize, head: u32, n: usize)
     requires { ⌜ (offset < 14) × (n ≤ 64) × (n * 4 ≤ length (now words)) ⌝ }
     ensures { λ _. ⌜ now (words .exit) ≡ upTo (n * 4) (wordNew (now (text .entry)) (formatted head) (14 - offset) n) (now (words .entry)) ⌝ }
 {
-    if n <= fill_quick(words, text, offset, head, n) {
+    if n <= fill_fast(words, text, offset, head, n) {
         return;
     }
     fill_packets(words, text, offset, head, n, n);
 }
 
-// The text in some packets, from octet 2 + offset of each on, and zeros in every whole packet after them.
+// Writes the text into some packets, starting at octet 2 + offset of each, and clears every whole packet after them.
 pub fn fill_text(words: &mut [u32], text: &[u8], offset: usize, head: u32, packets: PacketNumber)
     ensures { λ _. ⌜ now (words .exit) ≡ fillText (now (text .entry)) offset head (packets .0) (now (words .entry)) ⌝ }
 {

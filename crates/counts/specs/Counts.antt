@@ -1,9 +1,10 @@
--- The three counts, and the formulas between them. A packet is four words.
+-- The three counts and the formulas between them. A packet is four words.
 use Prim.Native.Nat.{ℕ, _*_, _/_}
 use Rattle.counts.specs.declared.PacketNumber.{PacketNumber}
 use Rattle.counts.specs.declared.WordNumber.{WordNumber}
 use Rattle.counts.specs.declared.TextByteNumber.{TextByteNumber}
 
+-- a number as a count of each kind
 abbrev pub packet : ℕ → PacketNumber
 packet n = record { 0 = n }
 
@@ -17,6 +18,6 @@ byte n = record { 0 = n }
 abbrev pub firstWord : PacketNumber → WordNumber
 firstWord p = word (p .0 * 4)
 
--- the whole packets of so many words
+-- the number of whole packets in some words
 abbrev pub wholePackets : WordNumber → PacketNumber
 wholePackets w = packet (w .0 / 4)

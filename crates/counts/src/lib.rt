@@ -1,10 +1,10 @@
-// The three counts, of which none may stand in for another. They are turned into one another by the formulas of specs/Counts.antt alone.
+// Three kinds of count, each its own type so that they cannot be mixed up. The formulas between them are in specs/Counts.antt.
 
-// A packet of a message, or how many there are.
+// A packet of a message, or a number of packets.
 pub struct PacketNumber(pub usize);
 
-// A word of a slice, or how many there are.
+// A word of a slice, or a number of words.
 pub struct WordNumber(pub usize);
 
-// A byte of a text, or of a packet's text.
+// A byte of a text, or of one packet's text.
 pub struct TextByteNumber(pub usize);

@@ -6,7 +6,7 @@ use Rattle.text.specs.declared.TextPlace.{TextPlace}
 use Rattle.kinds.specs.Fields.{Setting}
 use Rattle.records.specs.declared.message.Message.{Message}
 use Rattle.records.specs.Settings.{setRecord}
-use Rattle.standard.specs.Words.{Left, unchanged, setOn, writeOn}
+use Rattle.standard.specs.Words.{Outcome, unchanged, setOn, writeOn}
 use Rattle.numbers.specs.declared.Numbers.{Numbers}
 use Rattle.c_structs.specs.declared.answers.RecordAnswer.{RecordAnswer}
 use Rattle.numbers.specs.declared.to_record.FromNumbers.{FromNumbers}
@@ -26,25 +26,25 @@ abbrev pub placeAt : ℕ → ℕ → TextPlace
 placeAt p b = record { packet = packet p; byte = byte b }
 
 -- ---- choices set on words: a code that names none is refused before the words are looked at
-abbrev hintSet : HintFromCode → List ℕ → Left
+abbrev hintSet : HintFromCode → List ℕ → Outcome
 hintSet (H.Is h) ws = setOn (Setting.ui-hint h) ws
 hintSet (H.Refused r) ws = unchanged r ws
 
-abbrev pub hintOn : ℕ → List ℕ → Left
+abbrev pub hintOn : ℕ → List ℕ → Outcome
 hintOn n ws = hintSet (hintFromCode n) ws
 
-abbrev portSet : PortFromCode → List ℕ → Left
+abbrev portSet : PortFromCode → List ℕ → Outcome
 portSet (P.Is p) ws = setOn (Setting.midi1-port p) ws
 portSet (P.Refused r) ws = unchanged r ws
 
-abbrev pub portOn : ℕ → List ℕ → Left
+abbrev pub portOn : ℕ → List ℕ → Outcome
 portOn n ws = portSet (portFromCode n) ws
 
-abbrev directionSet : DirectionFromCode → List ℕ → Left
+abbrev directionSet : DirectionFromCode → List ℕ → Outcome
 directionSet (D.Is d) ws = setOn (Setting.direction d) ws
 directionSet (D.Refused r) ws = unchanged r ws
 
-abbrev pub directionOn : ℕ → List ℕ → Left
+abbrev pub directionOn : ℕ → List ℕ → Outcome
 directionOn n ws = directionSet (directionFromCode n) ws
 
 -- ---- on a record: numbers that are no record are handed back as they came
@@ -77,9 +77,9 @@ abbrev pub directionIn : ℕ → Numbers → RecordAnswer
 directionIn n c = directionEdit (directionFromCode n) c
 
 -- ---- writing a record
-abbrev writeFrom : FromNumbers → List ℕ → Left
+abbrev writeFrom : FromNumbers → List ℕ → Outcome
 writeFrom (G.Message m) ws = writeOn m ws
 writeFrom (G.Refused r) ws = unchanged r ws
 
-abbrev pub writeIn : Numbers → List ℕ → Left
+abbrev pub writeIn : Numbers → List ℕ → Outcome
 writeIn c ws = writeFrom (fromNumbers c) ws

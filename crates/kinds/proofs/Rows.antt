@@ -9,8 +9,8 @@ use borrow.Author.Tests.{leb-true, eqb-true}
 use Rattle.laws.specs.Pick.{pick, both}
 use Rattle.laws.specs.Lists.{map}
 use Rattle.laws.proofs.Pick.{never, both-left, both-right}
-use Rattle.slots.specs.Slots.{Slot, mask, fits, sound, clear, low, within, apart}
-use Rattle.slots.proofs.Tables.{low-more}
+use Rattle.slots.specs.Slots.{Slot, mask, fits, disjoint, apartFromAll, wordsBelow, bitsWithin, apart}
+use Rattle.slots.proofs.Tables.{words-below-more}
 use Rattle.kinds.specs.declared.kind.Kind.{Kind}
 use Rattle.kinds.specs.declared.kind.Kind.the-variants as K
 use Rattle.kinds.specs.declared.kind.Known.the-variants.{Is}
@@ -19,7 +19,7 @@ use Rattle.kinds.specs.Layout.{Part, Body, fixed, texts, Row, layout, ca
 
 -- no two fields of a kind share a bit, none touches the head or the text or leaves its word
 pub rows-right : (k : Kind) → right (layout k) ≡ true
-unfolding right rightBody layout sound clear low within apart both
+unfolding right rightBody layout disjoint apartFromAll wordsBelow bitsWithin apart both
 rows-right K.EndpointDiscovery = refl
 rows-right K.EndpointInfo = refl
 rows-right K.DeviceIdentity = refl
@@ -61,10 +61,10 @@ status-small K.FunctionBlockName = omega arith
 
 -- ---- a row that is right, by its parts
 pub record RowRight (b : Body) (r : Row) : Type 0 where
-  pub sound : sound (r .fields) ≡ true
-  pub head : clear headSlot (r .fields) ≡ true
+  pub sound : disjoint (r .fields) ≡ true
+  pub head : apartFromAll headSlot (r .fields) ≡ true
   pub body : rightBody b (r .fields) ≡ true
-  pub bits : within 32 (r .fields) ≡ true
+  pub bits : bitsWithin 32 (r .fields) ≡ true
   pub status : r .status < 0x400
 
 pub row-right : (k : Kind) → RowRight (layout k .body) (layout k)
@@ -73,22 +73,22 @@ row-right k =
     let e = rows-right k in
     record { sound = both-left _ _ e; head = both-left _ _ (both-right _ _ e); bits = both-left _ _ (both-right _ _ (both-right _ _ e)); body = both-right _ _ (both-right _ _ (both-right _ _ e)); status = status-small k }
 
-body-low : (b : Body) (t : List (Slot Part)) → rightBody b t ≡ true → low 4 t ≡ true
+body-low : (b : Body) (t : List (Slot Part)) → rightBody b t ≡ true → wordsBelow 4 t ≡ true
 unfolding rightBody
 body-low fixed t e = e
-body-low (texts x from) t e = low-more 1 4 t (omega arith) (both-right _ _ (both-right _ _ e))
+body-low (texts x from) t e = words-below-more 1 4 t (omega arith) (both-right _ _ (both-right _ _ e))
 
 -- its slots are in the four words of a packet
-pub row-low : (k : Kind) → low 4 (layout k .fields) ≡ true
+pub row-low : (k : Kind) → wordsBelow 4 (layout k .fields) ≡ true
 row-low k = body-low (layout k .body) (layout k .fields) (row-right k .body)
 
 -- what a text kind's row keeps
 pub record TextRow (r : Row) (from : ℕ) : Type 0 where
-  pub sound : sound (r .fields) ≡ true
-  pub head : clear headSlot (r .fields) ≡ true
-  pub text : clear (textSlot from) (r .fields) ≡ true
-  pub first : low 1 (r .fields) ≡ true
-  pub bits : within 32 (r .fields) ≡ true
+  pub sound : disjoint (r .fields) ≡ true
+  pub head : apartFromAll headSlot (r .fields) ≡ true
+  pub text : apartFromAll (textSlot from) (r .fields) ≡ true
+  pub first : wordsBelow 1 (r .fields) ≡ true
+  pub bits : bitsWithin 32 (r .fields) ≡ true
   pub least : 2 ≤ from
   pub most : from ≤ 15
   pub status : r .status < 0x400

@@ -6,7 +6,7 @@ use mathlib.Core.List.{List, [], _∷_}
 use lib.Dec.{eqb, leb}
 use Rattle.laws.specs.Pick.{pick, both}
 use Rattle.laws.specs.Lists.{map}
-use Rattle.slots.specs.Slots.{Slot, get, those, clear, sound, low, within}
+use Rattle.slots.specs.Slots.{Slot, get, those, apartFromAll, disjoint, wordsBelow, bitsWithin}
 use Rattle.kinds.specs.declared.kind.Kind.{Kind}
 use Rattle.kinds.specs.declared.kind.Kind.the-variants as K
 use Rattle.kinds.specs.declared.kind.Known.{Known}
@@ -180,8 +180,8 @@ abbrev pub textSlot : ℕ → Slot ℕ
 textSlot start = record { word = 0; at = 0; span = 32 - start * 8; key = 0 }
 
 unfoldable pub rightBody : Body → List (Slot Part) → Bool
-rightBody fixed t = low 4 t
-rightBody (texts text start) t = both (both (leb 2 start) (leb start 15)) (both (clear (textSlot start) t) (low 1 t))
+rightBody fixed t = wordsBelow 4 t
+rightBody (texts text start) t = both (both (leb 2 start) (leb start 15)) (both (apartFromAll (textSlot start) t) (wordsBelow 1 t))
 
 unfoldable pub right : Row → Bool
-right r = both (sound (r .fields)) (both (clear headSlot (r .fields)) (both (within 32 (r .fields)) (rightBody (r .body) (r .fields))))
+right r = both (disjoint (r .fields)) (both (apartFromAll headSlot (r .fields)) (both (bitsWithin 32 (r .fields)) (rightBody (r .body) (r .fields))))

@@ -1,4 +1,4 @@
--- Laws of a field, over its lowest bit and its span: got and put, fields apart; and of the octets of a word. Closed by `put-sum`, from which the rest is linear.
+-- Laws of reading and writing a field of a word, given by its lowest bit and its width, and of the octets of a word. Most follow from `put-sum` by linear arithmetic.
 use Prim.Native.Nat.{ℕ, _+_, _-_, _*_, _/_, _%_, _^_, _<_, _≤_}
 use mathlib.Core.Path.{_≡_, sym, ap, subst, _∙_}
 use mathlib.Core.Logic.{_⊎_, inl, inr}
@@ -12,7 +12,7 @@ use Rattle.laws.specs.Bits.{fieldOf, putField, wordOf}
 pub one-shl : {k : ℕ} (n : ℕ) → k < n → 1 * 2 ^ k % 2 ^ n ≡ 2 ^ k
 one-shl n h = rw one-mul (mod-eq-of-lt (pow-lt {j = n} h))
 
--- the field and what is below it, under the next bit
+-- the field and the bits below it stay below the next bit
 under : (w at span v : ℕ) → v < 2 ^ span → v * 2 ^ at + w % 2 ^ at < 2 ^ (at + span)
 under w at span v h = rw (add-comm at span, pow-add) (digits-lt h (mod-lt w (pow-pos at)))
 
@@ -27,16 +27,16 @@ put-lt w at span v hw ha hv =
 regroup : (q u s v r : ℕ) → q * (u * s) + v * u + r ≡ (q * s + v) * u + r
 regroup q u s v r = rw (add-mul, mul-comm u s, mul-assoc)
 
--- the field and the bits above it
+-- the field and the bits above it, after a put
 put-top : (w at span v : ℕ) → putField w at span v / 2 ^ at ≡ w / 2 ^ (at + span) * 2 ^ span + v
 put-top w at span v =
     ap (λ (t : ℕ). (w / 2 ^ (at + span) * t + v * 2 ^ at + w % 2 ^ at) / 2 ^ at) (pow-add 2 at span) ∙ ap (λ (t : ℕ). t / 2 ^ at) (regroup (w / 2 ^ (at + span)) (2 ^ at) (2 ^ span) v (w % 2 ^ at)) ∙ digits-div _ (mod-lt w (pow-pos at))
 
--- what was put is got
+-- reading a field gives what was put there
 pub get-put : (w at span v : ℕ) → v < 2 ^ span → fieldOf (putField w at span v) at span ≡ v
 get-put w at span v hv = rw (put-top w at span v) (digits-mod _ hv)
 
--- a field above is kept
+-- a field above is unchanged
 put-high : (w at span v : ℕ) → v < 2 ^ span → putField w at span v / 2 ^ (at + span) ≡ w / 2 ^ (at + span)
 put-high w at span v hv = sym (shr-shr (putField w at span v) at span) ∙ ap (λ (t : ℕ). t / 2 ^ span) (put-top w at span v) ∙ digits-div _ hv
 
@@ -46,7 +46,7 @@ get-above w at span v at′ span′ hv ha =
     let g : (x : ℕ) → x / 2 ^ at′ ≡ x / 2 ^ (at + span) / 2 ^ (at′ - (at + span)) = λ x. rw (shr-shr, e) in
     ap (λ (t : ℕ). t % 2 ^ span′) (g (putField w at span v) ∙ ap (λ (t : ℕ). t / 2 ^ (at′ - (at + span))) (put-high w at span v hv) ∙ sym (g w))
 
--- a field below is kept
+-- a field below is unchanged
 put-low : (w at span v : ℕ) → putField w at span v % 2 ^ at ≡ w % 2 ^ at
 put-low w at span v =
     ap (λ (t : ℕ). (w / 2 ^ (at + span) * t + v * 2 ^ at + w % 2 ^ at) % 2 ^ at) (pow-add 2 at span) ∙ ap (λ (t : ℕ). t % 2 ^ at) (regroup (w / 2 ^ (at + span)) (2 ^ at) (2 ^ span) v (w % 2 ^ at)) ∙ digits-mod _ (mod-lt w (pow-pos at))
@@ -57,7 +57,7 @@ get-below w at span v at′ span′ ha =
     let g : (x : ℕ) → x / 2 ^ at′ % 2 ^ span′ ≡ x % 2 ^ at % 2 ^ (span′ + at′) / 2 ^ at′ = λ x. sym (field x span′ at′) ∙ ap (λ (t : ℕ). t / 2 ^ at′) (sym (mod-mod-pow x (at - (span′ + at′)) (span′ + at′)) ∙ ap (λ (t : ℕ). x % 2 ^ t % 2 ^ (span′ + at′)) e) in
     g (putField w at span v) ∙ ap (λ (t : ℕ). t % 2 ^ (span′ + at′) / 2 ^ at′) (put-low w at span v) ∙ sym (g w)
 
--- ---- a put as a sum: from it and the gets, every other law is linear
+-- ---- a put as a sum: the laws below follow from it by linear arithmetic
 sum-of : (q a s f r v : ℕ) → q * (a * s) + v * a + r + f * a ≡ (q * s + f) * a + r + v * a
 sum-of q a s f r v = omega arith
 
@@ -66,13 +66,13 @@ put-sum w at span v =
     let h : w / 2 ^ (at + span) * 2 ^ span + fieldOf w at span ≡ w / 2 ^ at = ap (λ (t : ℕ). t * 2 ^ span + fieldOf w at span) (sym (shr-shr w at span)) ∙ split (w / 2 ^ at) span in
     ap (λ (t : ℕ). w / 2 ^ (at + span) * t + v * 2 ^ at + w % 2 ^ at + fieldOf w at span * 2 ^ at) (pow-add 2 at span) ∙ sum-of (w / 2 ^ (at + span)) (2 ^ at) (2 ^ span) (fieldOf w at span) (w % 2 ^ at) v ∙ ap (λ (t : ℕ). t * 2 ^ at + w % 2 ^ at + v * 2 ^ at) h ∙ ap (λ (t : ℕ). t + v * 2 ^ at) (split w at)
 
--- what is in a field is put: nothing changes
+-- putting back what a field holds changes nothing
 pub put-back : (w at span v : ℕ) → fieldOf w at span ≡ v → putField w at span v ≡ w
 put-back w at span v e =
     let s : putField w at span v + v * 2 ^ at ≡ w + v * 2 ^ at = ap (λ (t : ℕ). putField w at span v + t * 2 ^ at) (sym e) ∙ put-sum w at span v in
     omega arith
 
--- the last put is the one that counts
+-- the last put into a field wins
 pub put-over : (w at span u v : ℕ) → u < 2 ^ span → putField (putField w at span u) at span v ≡ putField w at span v
 put-over w at span u v hu =
     let s : putField (putField w at span u) at span v + u * 2 ^ at ≡ putField w at span u + v * 2 ^ at = ap (λ (t : ℕ). putField (putField w at span u) at span v + t * 2 ^ at) (sym (get-put w at span u hu)) ∙ put-sum (putField w at span u) at span v in
@@ -93,7 +93,7 @@ pub apart-sym : (at span at′ span′ : ℕ) → Apart at span at′ span′ �
 apart-sym at span at′ span′ (inl h) = inr h
 apart-sym at span at′ span′ (inr h) = inl h
 
--- puts in fields apart can be made in either order
+-- puts into fields that share no bit may be swapped
 pub put-swap : (w at span v at′ span′ v′ : ℕ) → v < 2 ^ span → v′ < 2 ^ span′ → Apart at span at′ span′ → putField (putField w at span v) at′ span′ v′ ≡ putField (putField w at′ span′ v′) at span v
 put-swap w at span v at′ span′ v′ h h′ d =
     sums _ _ _ _ _ _ _ _
@@ -105,8 +105,8 @@ put-swap w at span v at′ span′ v′ h h′ d =
     sums : (x y z u a b c e : ℕ) → x + a ≡ y + b → y + c ≡ w + e → z + c ≡ u + e → u + a ≡ w + b → x ≡ z
     sums x y z u a b c e p q r s = omega arith
 
--- ---- words of which some bits are the same
--- the low bits of a word have all its fields that lie in them
+-- ---- words that share some bits
+-- a field within the low bits of a word can be read from these bits
 pub low-field : (w a at span : ℕ) → at + span ≤ a → fieldOf (w % 2 ^ a) at span ≡ fieldOf w at span
 low-field w a at span h =
     let e : a - (span + at) + (span + at) ≡ a = omega arith in
@@ -114,7 +114,7 @@ low-field w a at span h =
     ∙ ap (λ (t : ℕ). t / 2 ^ at) (ap (λ (t : ℕ). w % 2 ^ t % 2 ^ (span + at)) (sym e) ∙ mod-mod-pow w (a - (span + at)) (span + at))
     ∙ field w span at
 
--- words that are the same from bit b on have the same fields there
+-- words that agree from bit b on have the same fields there
 pub same-above : (w v b at span : ℕ) → b ≤ at → w / 2 ^ b ≡ v / 2 ^ b → fieldOf w at span ≡ fieldOf v at span
 same-above w v b at span h e =
     let i : b + (at - b) ≡ at = omega arith in
@@ -122,7 +122,7 @@ same-above w v b at span h e =
     ap (λ (t : ℕ). t % 2 ^ span) (g w ∙ ap (λ (t : ℕ). t / 2 ^ (at - b)) e ∙ sym (g v))
 
 -- ---- octets of a word
--- the highest octet is all that is left of a word
+-- nothing is left above the highest octet
 pub first-octet : (w : ℕ) → w < 2 ^ 32 → w / 0x1000000 % 256 ≡ w / 0x1000000
 first-octet w h = mod-eq-of-lt (let l : w / 0x1000000 < 256 = omega arith in l)
 

@@ -1,4 +1,4 @@
--- The first number of which a test holds: what it is, that nothing else is, and how a loop finds it. By induction on the numbers left.
+-- The first number that passes a test: its properties, and how a loop finds it. By induction on the numbers left to try.
 use Prim.Native.Nat.{ℕ, zero, suc, _+_, _-_, _≤_, _<_}
 use mathlib.Core.Bool.{Bool, true, false}
 use mathlib.Core.Path.{_≡_, sym, _∙_}
@@ -38,7 +38,7 @@ pub first-is : (t : ℕ → Bool) (n : ℕ) → IsFirst t 0 n (first t n)
 unfolding first
 first-is t n = let q : 0 + n ≡ n = omega arith in rw q at (from-is t n 0)
 
--- no number is found exactly where the test fails of all
+-- no number is found exactly if the test fails for all
 pub none-first : (t : ℕ → Bool) (n : ℕ) → ltb (first t n) n ≡ false → (k : ℕ) → k < n → t k ≡ false
 none-first t n e k h = let l : n ≤ first t n = ltb-false _ _ e in first-is t n .before k (omega arith) (omega arith)
 
@@ -49,7 +49,7 @@ first-none t n h = le-ltb _ _ (go (decLt (first t n) n))
     go (yes l) = true-false (sym (first-is t n .found l) ∙ h (first t n) l)
     go (no l) = omega arith
 
--- ---- a loop that looks for it: what is left of the search is the whole search
+-- ---- the loop invariant: the rest of the search gives the result of the whole search
 module _ (t : ℕ → Bool) (n i : ℕ) where
   pub first-turn : i < n → t i ≡ false → firstFrom t (n - (i + 1)) (i + 1) ≡ firstFrom t (n - i) i
   unfolding firstFrom

@@ -2,4 +2,4 @@ pub mod Pick
 pub mod First
 pub mod Lists
 pub mod Bits
-pub mod Bytes
+pub mod EachBelow

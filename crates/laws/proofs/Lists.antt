@@ -1,4 +1,4 @@
--- Laws of the lists of specs/Lists.antt, over the function that makes them; what is left of a list, and stores. By induction on the list or on the count.
+-- Laws of the lists of specs/Lists.antt, of the rest of a list, and of stores into a list. By induction on the list or on the count.
 use Prim.Native.Nat.{ℕ, zero, suc, _+_, _*_, _<_, _≤_}
 use mathlib.Core.Path.{_≡_, refl, sym, ap, ap₂, _∙_}
 use mathlib.Core.Bool.{Bool, true, false}
@@ -26,7 +26,7 @@ getD-tabulate zero f k h = omega arith
 getD-tabulate (suc n) f zero h = refl
 getD-tabulate (suc n) f (suc k) h = getD-tabulate n (λ i. f (suc i)) k (omega arith)
 
--- a list whose elements are f's values is tabulated
+-- a list whose elements are the values of f is tabulated
 pub tabulate-ext : (xs : List ℕ) (n : ℕ) (f : ℕ → ℕ) → length xs ≡ n → ((k : ℕ) → k < n → getD xs k 0 ≡ f k) → xs ≡ tabulate n f
 tabulate-ext xs n f len all =
     ext-getD 0 xs (tabulate n f) (len ∙ sym (length-tabulate n f))
@@ -60,11 +60,11 @@ upTo-suc i f [] h = absurd (omega arith)
 upTo-suc zero f (w ∷ ws) h = refl
 upTo-suc (suc i) f (w ∷ ws) h = ap (λ (l : List ℕ). f zero ∷ l) (upTo-suc i (λ k. f (suc k)) ws (omega arith))
 
--- one element more
+-- one more element
 pub upTo-more : (i : ℕ) (f : ℕ → ℕ) (ws : List ℕ) → i < length ws → set (upTo i f ws) i (f i) ≡ upTo (i + 1) f ws
 upTo-more i f ws h = rw add-one (upTo-suc i f ws h)
 
--- from i on the list is as it was
+-- the elements from i on are unchanged
 pub upTo-rest : (i : ℕ) (f : ℕ → ℕ) (ws : List ℕ) (k : ℕ) → i ≤ k → getD (upTo i f ws) k 0 ≡ getD ws k 0
 unfolding upTo
 upTo-rest zero f ws k h = refl
@@ -72,7 +72,7 @@ upTo-rest (suc i) f [] k h = refl
 upTo-rest (suc i) f (w ∷ ws) zero h = absurd (omega arith)
 upTo-rest (suc i) f (w ∷ ws) (suc k) h = upTo-rest i (λ j. f (suc j)) ws k (omega arith)
 
--- filled again, and further
+-- filling again, and further
 pub upTo-again : (k m : ℕ) (f : ℕ → ℕ) (ws : List ℕ) → k ≤ m → upTo m f (upTo k f ws) ≡ upTo m f ws
 unfolding upTo
 upTo-again zero m f ws h = refl
@@ -80,7 +80,7 @@ upTo-again (suc k) zero f ws h = absurd (omega arith)
 upTo-again (suc k) (suc m) f [] h = refl
 upTo-again (suc k) (suc m) f (w ∷ ws) h = ap (λ (l : List ℕ). f zero ∷ l) (upTo-again k m (λ i. f (suc i)) ws (omega arith))
 
--- below i it is as f says
+-- the elements below i are the values of f
 pub upTo-below : (i : ℕ) (f : ℕ → ℕ) (ws : List ℕ) (k : ℕ) → k < i → k < length ws → getD (upTo i f ws) k 0 ≡ f k
 unfolding upTo
 upTo-below zero f ws k h l = absurd (omega arith)
@@ -88,28 +88,28 @@ upTo-below (suc i) f [] k h l = absurd (omega arith)
 upTo-below (suc i) f (w ∷ ws) zero h l = refl
 upTo-below (suc i) f (w ∷ ws) (suc k) h l = upTo-below i (λ j. f (suc j)) ws k (omega arith) (omega arith)
 
--- an element that f leaves
+-- an element that f leaves unchanged
 pub upTo-kept : (i : ℕ) (f : ℕ → ℕ) (ws : List ℕ) → i < length ws → f i ≡ getD ws i 0 → upTo (suc i) f ws ≡ upTo i f ws
 unfolding upTo
 upTo-kept i f [] h e = absurd (omega arith)
 upTo-kept zero f (w ∷ ws) h e = ap (λ (x : ℕ). x ∷ ws) e
 upTo-kept (suc i) f (w ∷ ws) h e = ap (λ (l : List ℕ). f zero ∷ l) (upTo-kept i (λ k. f (suc k)) ws (omega arith) e)
 
--- what is written twice is what was written last
+-- the last of two fillings wins
 pub upTo-over : (i : ℕ) (f g : ℕ → ℕ) (ws : List ℕ) → upTo i f (upTo i g ws) ≡ upTo i f ws
 unfolding upTo
 upTo-over zero f g ws = refl
 upTo-over (suc i) f g [] = refl
 upTo-over (suc i) f g (w ∷ ws) = ap (λ (l : List ℕ). f zero ∷ l) (upTo-over i (λ k. f (suc k)) (λ k. g (suc k)) ws)
 
--- a slice filled as far as it is looked at is tabulated
+-- the filled part of a slice is tabulated
 pub upTo-take : (n : ℕ) (f : ℕ → ℕ) (ws : List ℕ) → n ≤ length ws → take n (upTo n f ws) ≡ tabulate n f
 unfolding upTo tabulate
 upTo-take zero f ws h = refl
 upTo-take (suc n) f [] h = absurd (omega arith)
 upTo-take (suc n) f (w ∷ ws) h = ap (λ (l : List ℕ). f zero ∷ l) (upTo-take n (λ k. f (suc k)) ws (omega arith))
 
--- ---- nonzero: which elements are dropped, and that the others keep their order
+-- ---- nonzero: it drops the zeros and keeps the order of the rest
 pub nonzero-none : nonzero [] ≡ []
 unfolding nonzero
 nonzero-none = refl
@@ -145,19 +145,19 @@ unfolding nonzero tabulate
 zeros-dropped zero = refl
 zeros-dropped (suc n) = zeros-dropped n
 
--- zeros after a list are dropped with its own
+-- zeros after a list are dropped too
 pub pad-dropped : (xs : List ℕ) (n : ℕ) → length xs ≤ n → nonzero (tabulate n (λ m. getD xs m 0)) ≡ nonzero xs
 unfolding nonzero tabulate
 pad-dropped [] n h = zeros-dropped n
 pad-dropped (x ∷ xs) zero h = absurd (omega arith)
 pad-dropped (x ∷ xs) (suc n) h = rw (pad-dropped xs n (omega arith))
 
--- ---- what is left of a list
--- the element at i, and the rest
+-- ---- the rest of a list
+-- the element at i, and the rest after it
 pub drop-more : (xs : List ℕ) (i : ℕ) → i < length xs → drop i xs ≡ getD xs i 0 ∷ drop (i + 1) xs
 drop-more xs i h = rw add-one (drop-cons xs i 0 h)
 
--- the list of the element at i, and those of the rest; none are left at the end
+-- the same for `each`; at the end nothing is left
 pub each-more : (f : ℕ → List ℕ) (xs : List ℕ) (i : ℕ) → i < length xs → each f (drop i xs) ≡ f (getD xs i 0) ++ each f (drop (i + 1) xs)
 unfolding each
 each-more f xs i h = rw (drop-more xs i h)
@@ -166,13 +166,13 @@ pub each-none : (f : ℕ → List ℕ) (xs : List ℕ) (i : ℕ) → length xs �
 unfolding each
 each-none f xs i h = rw (drop-of-length-le xs h)
 
--- lists of at most k elements each
+-- the length of lists of at most k elements each
 pub each-length : (f : ℕ → List ℕ) (k : ℕ) → ((x : ℕ) → length (f x) ≤ k) → (xs : List ℕ) → length (each f xs) ≤ length xs * k
 unfolding each
 each-length f k h [] = omega arith
 each-length f k h (x ∷ xs) = rw length-append (omega (arith, h x, each-length f k h xs))
 
--- ---- stores of a list, its last element first
+-- ---- storing a list from its last element to its first
 pub sets-last : (a o : List ℕ) (i b : ℕ) → sets o i (a ++ b ∷ []) ≡ sets (set o (i + length a) b) i a
 sets-last [] o i b = rw add-zero
 sets-last (x ∷ a) o i b =

@@ -1,4 +1,4 @@
--- How a proof reaches a picked case, and what a picked case tells. Closed by cases on the tests.
+-- How to prove facts about `pick`, and what follows from such facts. By cases on the tests.
 use Prim.Native.Nat.{ℕ, _<_, _≤_}
 use mathlib.Core.Bool.{Bool, true, false, not}
 use mathlib.Core.Logic.{_⊎_, inl, inr}
@@ -8,14 +8,14 @@ use native.Mathlib.Decide.{decLt}
 use borrow.Author.Tests.{eq-eqb, ne-eqb, eqb-true, not-false}
 use Rattle.laws.specs.Pick.{pick, both, differ}
 
--- anything, of a number that is another
+-- anything follows from 0 ≡ 1
 pub never : {A : Type 0} → _≡_ {A = ℕ} 0 1 → A
 never e = absurd (omega arith)
 
 pub true-false : {A : Type 0} → true ≡ false → A
 true-false e = never (cc)
 
--- `here` where the test holds, `past` where it does not
+-- `here` if the test holds, `past` if it does not
 pub here : {A : Type 0} {t : Bool} {x z : A} (y : A) → t ≡ true → z ≡ x → z ≡ pick t x y
 here {t = true} y e q = q
 here {t = false} y e q = true-false (sym e)
@@ -24,22 +24,22 @@ pub past : {A : Type 0} {t : Bool} {y z : A} (x : A) → t ≡ false → z ≡ y
 past {t = true} x e q = true-false e
 past {t = false} x e q = q
 
--- a picked case that is not the first is the second
+-- if the result is not the first case, it is the second
 pub passed : {A : Type 0} (t : Bool) (x y z : A) → (x ≡ z → ⊥) → pick t x y ≡ z → (t ≡ false) × (y ≡ z)
 passed true x y z n e = absurd (n e)
 passed false x y z n e = (refl, e)
 
--- a test that holds, or does not
+-- case analysis: the test holds, or it does not
 pub split : {A : Type 0} (b : Bool) → (b ≡ true → A) → (b ≡ false → A) → A
 split true f g = f refl
 split false f g = g refl
 
--- what holds of both cases, each where it is picked, holds of the picked one
+-- a property of both cases is a property of the picked one
 pub picked : {A : Type 0} (P : A → Type 0) (t : Bool) (x y : A) → (t ≡ true → P x) → (t ≡ false → P y) → P (pick t x y)
 picked P true x y f g = f refl
 picked P false x y f g = g refl
 
--- what a test was found to be, of the same test in other words
+-- the known value of a test, for an equal test
 pub told : {a b d : Bool} → a ≡ b → a ≡ d → b ≡ d
 told e t = sym e ∙ t
 
@@ -48,12 +48,12 @@ pub is-picked : (b : Bool) → b ≡ pick b true false
 is-picked true = refl
 is-picked false = refl
 
--- one test holds, or the next
+-- of two tests, the first or the second holds
 pub either : (a b : Bool) → pick a true b ≡ true → (a ≡ true) ⊎ (b ≡ true)
 either true b e = inl refl
 either false b e = inr e
 
--- a number below another, or not
+-- a number is below another, or not
 pub below : (a b : ℕ) → (a < b) ⊎ (b ≤ a)
 below a b = go (decLt a b)
   where
@@ -81,7 +81,7 @@ unfolding both
 both-false true = refl
 both-false false = refl
 
--- a test with no other after it
+-- `both` with a second test that holds
 pub both-alone : (a : Bool) → both a true ≡ a
 unfolding both
 both-alone true = refl

@@ -1,11 +1,11 @@
--- A field of a word: its bits from the lowest on, and how many they are.
+-- A field of a word, given by its lowest bit `at` and its width `span`.
 use Prim.Native.Nat.{ℕ, _+_, _*_, _/_, _%_, _^_}
 
--- the field of `span` bits whose lowest is bit `at`
+-- the number in the field
 abbrev pub fieldOf : ℕ → ℕ → ℕ → ℕ
 fieldOf w at span = w / 2 ^ at % 2 ^ span
 
--- the word with that field set, and every other bit kept
+-- the word with number v in the field, and every other bit unchanged
 abbrev pub putField : ℕ → ℕ → ℕ → ℕ → ℕ
 putField w at span v = w / 2 ^ (at + span) * 2 ^ (at + span) + v * 2 ^ at + w % 2 ^ at
 

@@ -15,17 +15,17 @@ upTo zero f ws = ws
 upTo (suc i) f [] = []
 upTo (suc i) f (w ∷ ws) = f zero ∷ upTo i (λ k. f (suc k)) ws
 
--- a list without its zeros, the others in their order
+-- a list without its zeros, in the same order
 unfoldable pub nonzero : List ℕ → List ℕ
 nonzero [] = []
 nonzero (x ∷ xs) = pick (eqb x 0) (nonzero xs) (x ∷ nonzero xs)
 
--- one function on each element
+-- a function applied to each element
 unfoldable pub map : {A B : Type 0} → (A → B) → List A → List B
 map f [] = []
 map f (x ∷ xs) = f x ∷ map f xs
 
--- the lists of each element, one after another
+-- the lists f x of all elements x, joined
 unfoldable pub each : {A B : Type 0} → (A → List B) → List A → List B
 each f [] = []
 each f (x ∷ xs) = f x ++ each f xs

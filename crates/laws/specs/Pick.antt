@@ -1,9 +1,9 @@
--- A case picked by a test: the only "if" of all definitions.
+-- Choosing by a test: the only "if" used in definitions.
 use Prim.Native.Nat.{ℕ}
 use mathlib.Core.Bool.{Bool, true, false, not}
 use lib.Dec.{eqb}
 
--- the first where the test holds, else the second
+-- the first if the test holds, otherwise the second
 abbrev pub pick : {A : Type 0} → Bool → A → A → A
 pick true a b = a
 pick false a b = b

@@ -1,1 +1,1 @@
-// What any crate could use and no kind of message is in: a case picked by a test, the first number that passes one, lists, and fields of a word. No function.
+// General definitions and laws that know nothing of messages: choosing by a test, searching, lists, and fields of a word. It has no functions.

@@ -15,7 +15,7 @@ use Rattle.text.specs.declared.TextStep.the-variants.{Byte, End}
 use Rattle.text.specs.declared.Stepped.{Stepped}
 use Rattle.text.proofs.Place.{length-all, hands-all, handed-is, handed-all}
 use Rattle.ascii_lines.specs.Ascii.{ascii}
-use Rattle.ascii_lines.specs.Numbers.{hexByte, shown}
+use Rattle.ascii_lines.specs.Numbers.{hexByte, hexOrDash}
 
 -- the text of all packets, and its bytes from a place on
 abbrev wholeText : List ℕ → ℕ → List ℕ
@@ -62,12 +62,12 @@ module _ (ws : List ℕ) (cap : ℕ) where
     ahead-start = ahead-of (hands-all ws cap pos) few-all
 
     -- a text of no bytes is shown as `-`, and another byte by byte
-    pub shown-none : (s : Stepped) → s ≡ stepAt ws cap startPlace → s .step ≡ End → ascii "-" ≡ shown (wholeText ws cap)
-    unfolding shown
+    pub shown-none : (s : Stepped) → s ≡ stepAt ws cap startPlace → s .step ≡ End → ascii "-" ≡ hexOrDash (wholeText ws cap)
+    unfolding hexOrDash
     shown-none s q t = rw (ended (hands-all ws cap pos) s q t)
 
-    pub shown-some : (s : Stepped) (x : ℕ) → s ≡ stepAt ws cap startPlace → s .step ≡ Byte x → each hexByte (wholeText ws cap) ≡ shown (wholeText ws cap)
-    unfolding shown
+    pub shown-some : (s : Stepped) (x : ℕ) → s ≡ stepAt ws cap startPlace → s .step ≡ Byte x → each hexByte (wholeText ws cap) ≡ hexOrDash (wholeText ws cap)
+    unfolding hexOrDash
     shown-some s x q t = rw (turned (hands-all ws cap pos) few-all s x q t .first)
 
   -- ---- from a place on

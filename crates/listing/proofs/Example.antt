@@ -6,8 +6,8 @@ use Rattle.laws.specs.Pick.{both}
 use Rattle.laws.specs.First.{first, firstFrom}
 use Rattle.laws.specs.Lists.{tabulate, nonzero, map, each}
 use Rattle.slots.specs.Slots.{get, those}
-use Rattle.utf8.specs.Utf8.{after, firstBad}
-use Rattle.text.specs.Octets.{octetOf, due}
+use Rattle.utf8.specs.Utf8.{dueAfter, firstBad}
+use Rattle.text.specs.Octets.{octetOf, dueFormat}
 use Rattle.text.specs.Bytes.{textByte, allBytes}
 use Rattle.kinds.specs.Fields.{decided, same, start, joined}
 use Rattle.kinds.specs.Layout.{layout, among, held, valuesIn}
@@ -16,7 +16,7 @@ use Rattle.standard.specs.Reading.{ruled, otherField, readBody, readKind, readO
 use Rattle.standard.specs.Walk.{sizeOf, stepOf, framePacket, frameFrom, frameOf, framedOf, otherOf, walkOf}
 use Rattle.walking.specs.Visits.{visits}
 use Rattle.ascii_lines.specs.Ascii.{ascii}
-use Rattle.ascii_lines.specs.Numbers.{decimalIn, decimal, shown}
+use Rattle.ascii_lines.specs.Numbers.{decimalIn, decimal, hexOrDash}
 use Rattle.listing.specs.Lines.{kindName}
 use Rattle.listing.specs.Listing.{wordsOf, listingOf}
 
@@ -36,5 +36,5 @@ lines =
     ++ ascii "end 13 0\n"
 
 pub example : listingOf bytes ≡ lines
-unfolding both first firstFrom tabulate nonzero map each get those after firstBad octetOf due textByte allBytes decided same start joined layout among held valuesIn recordOf fieldsIn lookup firstPart ruled otherField readBody readKind readOf sizeOf stepOf framePacket frameFrom frameOf framedOf otherOf walkOf decimalIn decimal shown kindName visits wordsOf listingOf
+unfolding both first firstFrom tabulate nonzero map each get those dueAfter firstBad octetOf dueFormat textByte allBytes decided same start joined layout among held valuesIn recordOf fieldsIn lookup firstPart ruled otherField readBody readKind readOf sizeOf stepOf framePacket frameFrom frameOf framedOf otherOf walkOf decimalIn decimal hexOrDash kindName visits wordsOf listingOf
 example = refl

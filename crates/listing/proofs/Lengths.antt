@@ -25,8 +25,8 @@ use Rattle.records.specs.declared.message.Message.{Message}
 use Rattle.records.specs.declared.message.Message.the-variants as M
 use Rattle.records.specs.Records.{packetsIn, fieldsIn, lookup, firstPart}
 use Rattle.standard.specs.Formed.{Formed}
-use Rattle.ascii_lines.specs.Numbers.{decimal, shown}
-use Rattle.ascii_lines.proofs.Room.{decimal-length, shown-length}
+use Rattle.ascii_lines.specs.Numbers.{decimal, hexOrDash}
+use Rattle.ascii_lines.proofs.Room.{decimal-length, hex-or-dash-length}
 use Rattle.listing.specs.Lines.{kindName, messageShown}
 use Rattle.listing.proofs.Numbers.{discovery-shown, info-shown, identity-shown, block-shown}
 
@@ -76,9 +76,9 @@ pair : {n : ℕ} → n / 128 < 128 → n < 16384
 pair h = omega arith
 
 -- ---- text: two digits for each byte, or `-`
-text-length : (ws : List ℕ) (cap n : ℕ) → length (shown (textOf ws cap n)) ≤ n * cap * 2 + 1
+text-length : (ws : List ℕ) (cap n : ℕ) → length (hexOrDash (textOf ws cap n)) ≤ n * cap * 2 + 1
 text-length ws cap n =
-    omega (arith, shown-length (textOf ws cap n), nonzero-length (allBytes ws cap n), length-all ws cap n)
+    omega (arith, hex-or-dash-length (textOf ws cap n), nonzero-length (allBytes ws cap n), length-all ws cap n)
 
 -- ---- the kinds
 -- a line of one packet

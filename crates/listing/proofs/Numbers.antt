@@ -17,7 +17,7 @@ use Rattle.records.specs.declared.message.Message.the-variants as M
 use Rattle.records.specs.Records.{packetsIn, fieldsIn, lookup, firstPart}
 use Rattle.records.proofs.Numbers.{discovery-numbers, info-numbers, identity-numbers, block-numbers}
 use Rattle.ascii_lines.specs.Ascii.{ascii}
-use Rattle.ascii_lines.specs.Numbers.{numbers, shown}
+use Rattle.ascii_lines.specs.Numbers.{numbers, hexOrDash}
 use Rattle.listing.specs.Lines.{kindName, tenOf, messageShown}
 
 pub discovery-shown : {m : Message} {e : EndpointDiscovery} (ws : List ℕ) → m ≡ M.EndpointDiscovery e → ascii " endpoint-discovery" ++ numbers (take 8 (tenOf m)) ≡ messageShown m ws
@@ -37,14 +37,14 @@ unfolding layout kindName
 block-shown {m} {e} ws q = rw (q, block-numbers e) (sym (append-nil _))
 
 -- ---- the kinds with text, of a message's own words
-pub name-shown : {m : Message} {n : PacketNumber} (ws : List ℕ) → m ≡ M.EndpointName n → length ws / 4 ≡ packetsIn m → ascii " endpoint-name" ++ numbers (take 1 (tenOf m)) ++ (ascii " " ++ shown (textOf ws 14 (length ws / 4))) ≡ messageShown m ws
+pub name-shown : {m : Message} {n : PacketNumber} (ws : List ℕ) → m ≡ M.EndpointName n → length ws / 4 ≡ packetsIn m → ascii " endpoint-name" ++ numbers (take 1 (tenOf m)) ++ (ascii " " ++ hexOrDash (textOf ws 14 (length ws / 4))) ≡ messageShown m ws
 unfolding each layout kindName
 name-shown ws q h = rw (h, q)
 
-pub product-shown : {m : Message} {n : PacketNumber} (ws : List ℕ) → m ≡ M.ProductInstanceId n → length ws / 4 ≡ packetsIn m → ascii " product-instance-id" ++ numbers (take 1 (tenOf m)) ++ (ascii " " ++ shown (textOf ws 14 (length ws / 4))) ≡ messageShown m ws
+pub product-shown : {m : Message} {n : PacketNumber} (ws : List ℕ) → m ≡ M.ProductInstanceId n → length ws / 4 ≡ packetsIn m → ascii " product-instance-id" ++ numbers (take 1 (tenOf m)) ++ (ascii " " ++ hexOrDash (textOf ws 14 (length ws / 4))) ≡ messageShown m ws
 unfolding each layout kindName
 product-shown ws q h = rw (h, q)
 
-pub block-name-shown : {m : Message} {b : ℕ} {n : PacketNumber} (ws : List ℕ) → m ≡ M.FunctionBlockName b n → length ws / 4 ≡ packetsIn m → ascii " function-block-name" ++ numbers (take 2 (tenOf m)) ++ (ascii " " ++ shown (textOf ws 13 (length ws / 4))) ≡ messageShown m ws
+pub block-name-shown : {m : Message} {b : ℕ} {n : PacketNumber} (ws : List ℕ) → m ≡ M.FunctionBlockName b n → length ws / 4 ≡ packetsIn m → ascii " function-block-name" ++ numbers (take 2 (tenOf m)) ++ (ascii " " ++ hexOrDash (textOf ws 13 (length ws / 4))) ≡ messageShown m ws
 unfolding each layout kindName firstPart fieldsIn lookup same decided
 block-name-shown ws q h = rw (h, q)

@@ -36,7 +36,7 @@ use Rattle.walking.proofs.Visits.{next-between}
 use Rattle.ascii_lines.specs.Ascii.{ascii}
 use Rattle.ascii_lines.specs.Page.{Wrote}
 use Rattle.ascii_lines.specs.Numbers.{decimal}
-use Rattle.ascii_lines.proofs.Room.{decimal-length, within, first}
+use Rattle.ascii_lines.proofs.Room.{decimal-length, place-in-bounds, text-at-start}
 use Rattle.listing.specs.Lines.{messageShown, refusalShown, lineOf, endLine, tooLong}
 use Rattle.listing.specs.Listing.{wordAt, wordsOf, visitLines, linesOf, listingOf}
 use Rattle.listing.specs.Listed.{Listed, roomy}
@@ -187,12 +187,12 @@ listing-room bytes =
 -- what a program goes by follows from what was put
 pub listed : (bytes o : List ℕ) (r : ℕ) (p : List ℕ) → Wrote 0 o (listingOf bytes) r p → Listed bytes o r p
 listed bytes o r p w =
-    let f = within w (omega arith) in
+    let f = place-in-bounds w (omega arith) in
     record {
       wrote = w;
       fits = f;
       counts = sym (length-take-le r p f);
-      whole = λ h. first w (omega (arith, listing-room bytes));
+      whole = λ h. text-at-start w (omega (arith, listing-room bytes));
     }
 
 -- ---- the two cases of the listing

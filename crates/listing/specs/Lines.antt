@@ -18,7 +18,7 @@ use Rattle.standard.specs.Walk.{part}
 use Rattle.numbers.specs.declared.Numbers.{Numbers}
 use Rattle.numbers.specs.Numbers.{asNumbers}
 use Rattle.ascii_lines.specs.Ascii.{ascii}
-use Rattle.ascii_lines.specs.Numbers.{decimal, numbers, shown}
+use Rattle.ascii_lines.specs.Numbers.{decimal, numbers, hexOrDash}
 
 unfoldable pub kindName : Kind → List ℕ
 kindName K.EndpointDiscovery = ascii "endpoint-discovery"
@@ -32,7 +32,7 @@ kindName K.FunctionBlockName = ascii "function-block-name"
 -- the text of n packets, of a kind that has one
 abbrev textShown : Body → ℕ → List ℕ → List ℕ
 textShown fixed n ws = []
-textShown (texts t from) n ws = ascii " " ++ shown (textOf ws (capacityIn (texts t from)) n)
+textShown (texts t from) n ws = ascii " " ++ hexOrDash (textOf ws (capacityIn (texts t from)) n)
 
 -- a message's packets and its nine numbers as they cross, 0 past its last
 abbrev tenIn : Numbers → List ℕ

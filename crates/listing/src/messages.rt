@@ -7,7 +7,7 @@ ghost use Rattle.text.specs.Bytes.{textOf};
 ghost use Rattle.records.specs.Records.{packetsIn};
 ghost use Rattle.ascii_lines.specs.Ascii.{ascii};
 ghost use Rattle.ascii_lines.specs.Page.{Wrote};
-ghost use Rattle.ascii_lines.specs.Numbers.{numbers, shown};
+ghost use Rattle.ascii_lines.specs.Numbers.{numbers, hexOrDash};
 ghost use Rattle.listing.specs.Lines.{tenOf, messageShown};
 use crate::shown::put_shown;
 use numbers::of_record::numbers_of;
@@ -45,7 +45,7 @@ fn put_texts(
     offset: usize,
 ) -> usize
     requires { ⌜ (count ≤ 10) × (offset < 14) ⌝ }
-    ensures { λ r. ⌜ Wrote at (now (out .entry)) (now (name .entry) ++ numbers (take count (tenOf message)) ++ (ascii " " ++ shown (textOf (now (words .entry)) (14 - offset) (length (now (words .entry)) / 4)))) r (now (out .exit)) ⌝ }
+    ensures { λ r. ⌜ Wrote at (now (out .entry)) (now (name .entry) ++ numbers (take count (tenOf message)) ++ (ascii " " ++ hexOrDash (textOf (now (words .entry)) (14 - offset) (length (now (words .entry)) / 4)))) r (now (out .exit)) ⌝ }
 {
     let p = put_fields(out, at, name, message, count);
     put_shown(out, p, words, offset)

@@ -6,7 +6,7 @@ ghost use Rattle.laws.specs.Lists.{each};
 ghost use Rattle.text.specs.Bytes.{textOf};
 ghost use Rattle.ascii_lines.specs.Ascii.{ascii};
 ghost use Rattle.ascii_lines.specs.Page.{Wrote};
-ghost use Rattle.ascii_lines.specs.Numbers.{hexByte, shown};
+ghost use Rattle.ascii_lines.specs.Numbers.{hexByte, hexOrDash};
 use text::TextStep;
 use text::by_byte;
 
@@ -35,7 +35,7 @@ fn put_bytes(out: &mut [u8], at: usize, words: &[u32], offset: usize) -> usize
 // A space and the text, or `-` where it is empty.
 pub(crate) fn put_shown(out: &mut [u8], at: usize, words: &[u32], offset: usize) -> usize
     requires { ⌜ offset < 14 ⌝ }
-    ensures { λ r. ⌜ Wrote at (now (out .entry)) (ascii " " ++ shown (textOf (now (words .entry)) (14 - offset) (length (now (words .entry)) / 4))) r (now (out .exit)) ⌝ }
+    ensures { λ r. ⌜ Wrote at (now (out .entry)) (ascii " " ++ hexOrDash (textOf (now (words .entry)) (14 - offset) (length (now (words .entry)) / 4))) r (now (out .exit)) ⌝ }
 {
     let p = ascii_lines::put_byte(out, at, b' ');
     let first = by_byte::step(words, offset, by_byte::start());

@@ -1,4 +1,4 @@
--- Good values stay good under an accepted setting. Closed by what an accepted setting tells.
+-- Good values stay good under an accepted setting. From what is known of an accepted setting.
 use Prim.Native.Nat.{ℕ, _≤_}
 use mathlib.Core.Path.{sym, ap, _∙_}
 use mathlib.Core.List.{List}
@@ -12,10 +12,10 @@ use Rattle.kinds.specs.Layout.{Part, Body, fixed, texts, capacityIn, mostIn, pa
 use Rattle.records.specs.Settings.{with}
 use Rattle.records.proofs.With.{parts-with, text-with, port-kept, direction-kept}
 use Rattle.standard.proofs.Accepted.{Accepted}
-use Rattle.promises.specs.Good.{textFor, packetsFor, GoodIn}
+use Rattle.promises.specs.Good.{textFor, packetsFor, GoodValuesIn}
 
--- GOOD VALUES stay good, whatever is accepted
-pub good-with : (b : Body) (t : List (Slot Part)) (room : ℕ) (v : Field → List ℕ) (s : Setting) → GoodIn b t room v → Accepted b t room s → GoodIn b t room (with (fieldIn s) (valueIn s) v)
+-- GOOD VALUES stay good under any accepted setting
+pub good-with : (b : Body) (t : List (Slot Part)) (room : ℕ) (v : Field → List ℕ) (s : Setting) → GoodValuesIn b t room v → Accepted b t room s → GoodValuesIn b t room (with (fieldIn s) (valueIn s) v)
 good-with b t room v s g a =
     record {
       numbers = ap (fits t) (sym (parts-with (fieldIn s) (valueIn s) v)) ∙ fits-those (λ p. same (p .field) (fieldIn s)) (parts (λ f. valueIn s)) (parts v) t (a .numbers) (g .numbers);
@@ -26,7 +26,7 @@ good-with b t room v s g a =
       direction = direction-kept s v (g .direction);
     }
   where
-    text : (b : Body) → GoodIn b t room v → Accepted b t room s → Valid (textFor b (with (fieldIn s) (valueIn s) v)) × (packetsFor b (with (fieldIn s) (valueIn s) v) ≤ mostIn b) × (packetsFor b (with (fieldIn s) (valueIn s) v) ≤ room)
+    text : (b : Body) → GoodValuesIn b t room v → Accepted b t room s → Valid (textFor b (with (fieldIn s) (valueIn s) v)) × (packetsFor b (with (fieldIn s) (valueIn s) v) ≤ mostIn b) × (packetsFor b (with (fieldIn s) (valueIn s) v) ≤ room)
     text fixed g a = (empty, g .most, g .inside)
     text (texts x from) g a =
         text-with (λ (l : List ℕ). Valid l × (needed (capacityIn (texts x from)) (length l) ≤ 64) × (needed (capacityIn (texts x from)) (length l) ≤ room)) x s v

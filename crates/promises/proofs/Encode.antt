@@ -1,4 +1,4 @@
--- The buffer of good values is a message of their record, and a setting on it leaves the buffer of the changed values. Closed by the laws of the two bodies.
+-- The buffer of good values is a message of their record, and a setting on it gives the buffer of the changed values. From the laws of fixed and text kinds.
 use Prim.Native.Nat.{ℕ, _+_, _-_, _*_, _≤_}
 use mathlib.Core.Path.{_≡_, refl, sym, ap, _∙_, subst}
 use mathlib.Core.List.{List}
@@ -25,14 +25,14 @@ use Rattle.standard.specs.Heads.{packetsOf}
 use Rattle.standard.specs.Reading.{readOf, textAt}
 use Rattle.standard.specs.Formed.{Formed}
 use Rattle.standard.specs.Walk.{part, walkOf}
-use Rattle.standard.specs.Words.{left, fresh, encode, answerTo, afterAnswer, setMessage, setOn}
+use Rattle.standard.specs.Words.{outcome, fresh, encode, answerTo, afterAnswer, setMessage, setOn}
 use Rattle.standard.specs.Lists.{isDone}
 use Rattle.standard.proofs.Formed.{formed-read}
-use Rattle.promises.specs.Good.{textFor, packetsFor, Good}
+use Rattle.promises.specs.Good.{textFor, packetsFor, GoodValues}
 use Rattle.promises.specs.Values.{packetsNeeded, recordFor, textGiven, wordsFor, changed}
 use Rattle.standard.proofs.Walks.{formed-walk}
 use Rattle.standard.proofs.Fields.{values-hold}
-use Rattle.standard.proofs.Accepted.{accepted}
+use Rattle.standard.proofs.Accepted.{accepted-facts}
 use Rattle.promises.proofs.Laid.{Laid, laid-formed}
 use Rattle.promises.proofs.Changed.{good-with}
 use Rattle.promises.proofs.Bodies.{in-length, in-fresh, in-laid, in-acted}
@@ -47,7 +47,7 @@ module _ (k : Kind) (ws : List ℕ) (l : 4 ≤ length ws) where
   unfolding encode
   encode-length v = in-length (layout k) ws l (layout k .body) (row-right k) v
 
-  module _ (v : Field → List ℕ) (g : Good k (packetsOf ws) v) where
+  module _ (v : Field → List ℕ) (g : GoodValues k (packetsOf ws) v) where
     laid : Laid (layout k .body) (layout k) (packetsNeeded k v) v (encode k ws v)
     unfolding encode
     laid = in-laid (layout k) ws l v (layout k .body) (row-right k) g
@@ -56,7 +56,7 @@ module _ (k : Kind) (ws : List ℕ) (l : 4 ≤ length ws) where
     pub encode-holds : reads (layout k .fields) (parts v) (encode k ws v)
     encode-holds = laid .fields 0 (laid .some)
 
-    -- ---- THE MESSAGE, read as what it is
+    -- ---- THE MESSAGE is read as the record of the values
     pub encode-formed : Formed (recordFor k v) (nonzero (textGiven k v)) (wordsFor k ws v)
     encode-formed = laid-formed k (packetsOf ws) v (encode k ws v) g laid
 
@@ -69,7 +69,7 @@ module _ (k : Kind) (ws : List ℕ) (l : 4 ≤ length ws) where
     kind : kindIn (recordFor k v) ≡ k
     kind = record-kind k (packetsNeeded k v) v
 
-    -- and its text, with zeros dropped
+    -- and its text is the given text without zeros
     pub encode-text : textAt k (wordsFor k ws v) ≡ nonzero (textGiven k v)
     encode-text =
         let e = encode-formed .words in
@@ -77,7 +77,7 @@ module _ (k : Kind) (ws : List ℕ) (l : 4 ≤ length ws) where
         ap (λ (c : Kind). textOf (wordsFor k ws v) (capacityOf c) (packetsOf (wordsFor k ws v))) (sym kind)
         ∙ ap (textOf (wordsFor k ws v) (capacityOf (kindIn (recordFor k v)))) n ∙ encode-formed .text
 
-    -- and walked, to the word after it
+    -- and the walk finds it, and goes on after it
     front : take (packetsNeeded k v * 4) (encode k ws v) ≡ part (encode k ws v) 0 (packetsIn (recordFor k v))
     front = let z : 0 + packetsIn (recordFor k v) * 4 - 0 ≡ packetsNeeded k v * 4 = omega (arith, packets) in rw z
 
@@ -87,27 +87,27 @@ module _ (k : Kind) (ws : List ℕ) (l : 4 ≤ length ws) where
         formed-walk (recordFor k v) (nonzero (textGiven k v)) (encode k ws v) 0 (rw z (laid .room)) (subst (Formed (recordFor k v) (nonzero (textGiven k v))) front encode-formed)
         ∙ ap (λ (n : ℕ). W.Message (recordFor k v) (word n)) z
 
-    -- ---- A SETTING on it
+    -- ---- A SETTING on it gives the buffer of the changed values
     whole : packetsOf (encode k ws v) ≡ packetsOf ws
     whole = rw (encode-length v)
 
     after-law : (s : Setting) (a : Answer) → answerTo (layout k) (packetsOf ws) s ≡ a → afterAnswer a (layout k) (packetsNeeded k v) s (encode k ws v) ≡ encode k ws (λ f. pick (both (isDone a) (same f (fieldIn s))) (valueIn s) (v f))
     unfolding encode both
-    after-law s A.Done e = in-acted (layout k) ws l v (layout k .body) (row-right k) g s (accepted (layout k) (packetsOf ws) s e) (values-hold k _)
+    after-law s A.Done e = in-acted (layout k) ws l v (layout k .body) (row-right k) g s (accepted-facts (layout k) (packetsOf ws) s e) (values-hold k _)
     after-law s (A.Refused r) e = refl
 
-    pub set-law : (s : Setting) → setOn s (encode k ws v) ≡ left (answerTo (layout k) (packetsOf ws) s) (encode k ws (changed k (packetsOf ws) s v))
+    pub set-law : (s : Setting) → setOn s (encode k ws v) ≡ outcome (answerTo (layout k) (packetsOf ws) s) (encode k ws (changed k (packetsOf ws) s v))
     unfolding setOn setMessage
     set-law s = rw (encode-walk, packets, kind, whole, after-law s (answerTo (layout k) (packetsOf ws) s) refl)
 
-    good-by : (s : Setting) (a : Answer) → answerTo (layout k) (packetsOf ws) s ≡ a → Good k (packetsOf ws) (λ f. pick (both (isDone a) (same f (fieldIn s))) (valueIn s) (v f))
+    good-by : (s : Setting) (a : Answer) → answerTo (layout k) (packetsOf ws) s ≡ a → GoodValues k (packetsOf ws) (λ f. pick (both (isDone a) (same f (fieldIn s))) (valueIn s) (v f))
     unfolding both
-    good-by s A.Done e = good-with (layout k .body) (layout k .fields) (packetsOf ws) v s g (accepted (layout k) (packetsOf ws) s e)
+    good-by s A.Done e = good-with (layout k .body) (layout k .fields) (packetsOf ws) v s g (accepted-facts (layout k) (packetsOf ws) s e)
     good-by s (A.Refused r) e = g
 
     -- and the changed values are good
-    pub good-law : (s : Setting) → Good k (packetsOf ws) (changed k (packetsOf ws) s v)
-    good-law s = good-by s (answerTo (layout k) (packetsOf ws) s) refl
+    pub good-kept : (s : Setting) → GoodValues k (packetsOf ws) (changed k (packetsOf ws) s v)
+    good-kept s = good-by s (answerTo (layout k) (packetsOf ws) s) refl
 
   -- ---- the starting values are good
   start-text : (b : Body) → Valid (textFor b start) × (packetsFor b start ≤ mostIn b) × (packetsFor b start ≤ packetsOf ws)
@@ -115,7 +115,7 @@ module _ (k : Kind) (ws : List ℕ) (l : 4 ≤ length ws) where
   start-text fixed = (empty, omega arith, omega arith)
   start-text (texts x from) = (empty, omega arith, omega arith)
 
-  pub start-good : Good k (packetsOf ws) start
+  pub start-good : GoodValues k (packetsOf ws) start
   unfolding start
   start-good =
       let t = start-text (layout k .body) in

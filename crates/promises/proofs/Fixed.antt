@@ -1,4 +1,4 @@
--- Fixed kinds: the buffer of given values, and a setting on it. Closed by the laws of a table, over any row.
+-- Fixed kinds: the buffer of given values, and a setting on it. From the laws of a table, for any row.
 use Prim.Native.Nat.{ℕ, _≤_}
 use mathlib.Core.Path.{_≡_, refl, ap, _∙_}
 use mathlib.Core.Bool.{true}
@@ -6,9 +6,9 @@ use mathlib.Core.List.{List}
 use native.Mathlib.Omega.{arith}
 use lib.ListN.{length}
 use Rattle.laws.specs.Lists.{tabulate, nonzero}
-use Rattle.slots.specs.Slots.{get, putAll, fits, clear, sound, low, reads}
-use Rattle.slots.proofs.Slots.{length-putAll, get-clear, put-those, reads-all}
-use Rattle.text.specs.Octets.{needed, due}
+use Rattle.slots.specs.Slots.{get, putAll, fits, apartFromAll, disjoint, wordsBelow, reads}
+use Rattle.slots.proofs.Slots.{length-putAll, get-apart-all, put-those, reads-all}
+use Rattle.text.specs.Octets.{needed, dueFormat}
 use Rattle.text.specs.Written.{blank}
 use Rattle.text.specs.Bytes.{allBytes}
 use Rattle.text.proofs.Written.{length-blank, blank-first}
@@ -19,7 +19,7 @@ use Rattle.records.proofs.With.{parts-with}
 use Rattle.standard.specs.Heads.{headWord, headAt}
 use Rattle.standard.specs.Words.{encodeIn, actIn}
 use Rattle.promises.specs.Good.{packetsFor}
-use Rattle.promises.proofs.Laid.{headBits, Laid}
+use Rattle.promises.proofs.Laid.{topBits, Laid}
 
 module _ (r : Row) (ws : List ℕ) (v : Field → List ℕ) where
   abbrev base : List ℕ
@@ -29,7 +29,7 @@ module _ (r : Row) (ws : List ℕ) (v : Field → List ℕ) where
   unfolding encodeIn
   fixed-length = length-putAll (r .fields) _ _ ∙ length-blank _ ws
 
-  module _ (so : sound (r .fields) ≡ true) (f : fits (r .fields) (parts v) ≡ true) where
+  module _ (so : disjoint (r .fields) ≡ true) (f : fits (r .fields) (parts v) ≡ true) where
     -- A SETTING of a field of a fixed kind
     pub fixed-acted : (n : ℕ) (s : Setting) → fits (slotsOf (fieldIn s) (r .fields)) (parts (λ g. valueIn s)) ≡ true → actIn fixed r n s (encodeIn fixed r ws v) ≡ encodeIn fixed r ws (with (fieldIn s) (valueIn s) v)
     unfolding encodeIn actIn
@@ -37,10 +37,10 @@ module _ (r : Row) (ws : List ℕ) (v : Field → List ℕ) where
         put-those (λ p. same (p .field) (fieldIn s)) (parts (λ g. valueIn s)) (parts v) (r .fields) base so a f
         ∙ ap (λ (u : Part → ℕ). putAll (r .fields) u base) (parts-with (fieldIn s) (valueIn s) v)
 
-    module _ (cl : clear headSlot (r .fields) ≡ true) (lo : low 4 (r .fields) ≡ true) (l : 4 ≤ length ws) where
-      head-kept : headBits (headAt (encodeIn fixed r ws v) 0) ≡ headBits (headWord (r .status) 0)
+    module _ (cl : apartFromAll headSlot (r .fields) ≡ true) (lo : wordsBelow 4 (r .fields) ≡ true) (l : 4 ≤ length ws) where
+      head-kept : topBits (headAt (encodeIn fixed r ws v) 0) ≡ topBits (headWord (r .status) 0)
       unfolding encodeIn get
-      head-kept = get-clear headSlot (r .fields) (parts v) base cl f ∙ ap headBits (blank-first _ ws l)
+      head-kept = get-apart-all headSlot (r .fields) (parts v) base cl f ∙ ap topBits (blank-first _ ws l)
 
       -- each slot holds its part
       fixed-reads : reads (r .fields) (parts v) (encodeIn fixed r ws v)
@@ -48,7 +48,7 @@ module _ (r : Row) (ws : List ℕ) (v : Field → List ℕ) where
       fixed-reads = reads-all 4 (r .fields) (parts v) base (rw length-blank l) lo so f
 
       pub fixed-laid : Laid fixed r (packetsFor fixed v) v (encodeIn fixed r ws v)
-      unfolding needed due allBytes tabulate nonzero
+      unfolding needed dueFormat allBytes tabulate nonzero
       fixed-laid =
           record {
             some = omega arith;

@@ -1,4 +1,4 @@
--- A fresh message is the buffer of the starting values, and these are good. Closed over any row: with no text the first word is the head, and all else is zero.
+-- A fresh message is the buffer of the starting values, and these are good. For any row: without text the first word is the head, and all else is zero.
 use Prim.Native.Nat.{ℕ, zero, suc, _+_, _-_, _*_, _/_, _≤_, _<_}
 use mathlib.Core.Path.{_≡_, sym, ap, _∙_, fun-ext}
 use mathlib.Core.Bool.{true}
@@ -10,8 +10,8 @@ use lib.Dec.{eqb, eqb·suc-zero}
 use Rattle.laws.specs.Pick.{pick}
 use Rattle.laws.specs.Lists.{upTo}
 use Rattle.laws.proofs.Pick.{below}
-use Rattle.slots.specs.Slots.{Slot, putAll, fits, low}
-use Rattle.text.specs.Octets.{needed, due}
+use Rattle.slots.specs.Slots.{Slot, putAll, fits, wordsBelow}
+use Rattle.text.specs.Octets.{needed, dueFormat}
 use Rattle.text.specs.Written.{octetAt, wordIn, wordNew, wholeWords, written, blank}
 use Rattle.text.proofs.Written.{octet-head, octet-text, word-text, word-zero}
 use Rattle.kinds.specs.Fields.{Text, start}
@@ -23,7 +23,7 @@ use Rattle.standard.proofs.TextHead.{empty-first, head-first, no-small}
 use Rattle.text.proofs.Rewritten.{head-zero}
 use Rattle.kinds.proofs.Rows.{TextRow}
 
--- ---- blank words: the head, and what comes after it whatever the head
+-- ---- a blank buffer: the head, then words that do not depend on it
 after : ℕ → List ℕ → List ℕ
 after n ws = upTo (n / 4 * 4 - 1) (λ k. 0) ws
 
@@ -33,12 +33,12 @@ blank-cons head w ws l =
     let e : suc (length ws) / 4 * 4 ≡ suc (suc (length ws) / 4 * 4 - 1) = omega arith in
     ap (λ (n : ℕ). upTo n (λ k. pick (eqb k 0) head 0) (w ∷ ws)) e ∙ simp eqb·suc-zero
 
--- a table in the first word goes into the head
-blank-put : (t : List (Slot Part)) (v : Part → ℕ) (head : ℕ) (ws : List ℕ) → low 1 t ≡ true → 4 ≤ length ws → putAll t v (blank head ws) ≡ blank (putWord t v head) ws
+-- a table put into the first word is put into the head
+blank-put : (t : List (Slot Part)) (v : Part → ℕ) (head : ℕ) (ws : List ℕ) → wordsBelow 1 t ≡ true → 4 ≤ length ws → putAll t v (blank head ws) ≡ blank (putWord t v head) ws
 blank-put t v head [] lo l = absurd (omega arith)
 blank-put t v head (w ∷ ws) lo l = ap (putAll t v) (blank-cons head w ws (omega arith)) ∙ put-first t v head _ lo ∙ sym (blank-cons (putWord t v head) w ws (omega arith))
 
--- ---- text that is empty: one packet, zero but for its first word
+-- ---- empty text: one packet, zero except for its first word
 octet-none : (head : ℕ → ℕ) (cap j : ℕ) → 4 ≤ j → octetAt [] head cap 1 0 j ≡ 0
 octet-none head cap j h =
     ⊎-elim (λ (l : j < 16 - cap). octet-head [] head cap 1 0 j l ∙ head-zero _ j h) (λ (l : 16 - cap ≤ j). octet-text [] head cap 1 0 j l) (below j (16 - cap))
@@ -58,10 +58,10 @@ none-written : (head : ℕ → ℕ) (cap : ℕ) (ws : List ℕ) → written ws [
 unfolding written blank
 none-written head cap ws = ap (λ (f : ℕ → ℕ). upTo (wholeWords ws) f ws) (fun-ext (new-word head cap))
 
--- ---- by body
+-- ---- fixed kinds and text kinds
 module _ (ws : List ℕ) (l : 4 ≤ length ws) (r : Row) where
   text-first : (from : ℕ) → TextRow r from → (v : Part → ℕ) → fits (r .fields) v ≡ true → wordIn [] (λ f. putWord (r .fields) v (headWord (r .status) f)) (16 - from) 1 0 0 ≡ putWord (r .fields) v (headWord (r .status) 0)
-  unfolding due
+  unfolding dueFormat
   text-first from k v f =
       head-first [] no-small 1 0 from (r .status) (k .least) (k .most) (k .status) (r .fields) (k .text) (k .bits) (k .first) v f
       ∙ ap (putWord (r .fields) v) (empty-first (r .status) 1 0 (k .status) from (k .least) (k .most))

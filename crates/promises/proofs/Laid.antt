@@ -1,4 +1,4 @@
--- What the buffer of given values holds, packet by packet, and that it is then a message of their record. Closed by fields of a head.
+-- The contents of the buffer of given values, packet by packet, and that it is a message of their record. From the fields of a head.
 use Prim.Native.Nat.{ℕ, _*_, _≤_, _<_}
 use mathlib.Core.Path.{_≡_, subst}
 use mathlib.Core.List.{List}
@@ -8,9 +8,9 @@ use Rattle.laws.specs.Bits.{fieldOf}
 use Rattle.laws.specs.Lists.{nonzero}
 use Rattle.slots.specs.Slots.{reads}
 use Rattle.utf8.proofs.Zeros.{nonzero-valid}
-use Rattle.text.specs.Octets.{due}
+use Rattle.text.specs.Octets.{dueFormat}
 use Rattle.text.specs.Bytes.{textOf}
-use Rattle.text.proofs.Needed.{due-small}
+use Rattle.text.proofs.Needed.{due-format-small}
 use Rattle.kinds.specs.declared.kind.Kind.{Kind}
 use Rattle.kinds.specs.Fields.{Field}
 use Rattle.kinds.specs.Layout.{Body, Row, layout, capacityIn, parts}
@@ -20,26 +20,26 @@ use Rattle.records.proofs.Records.{record-kind, record-packets}
 use Rattle.standard.specs.Heads.{typeOf, formatOf, statusOf, streamType, headWord, packetFrom, headAt}
 use Rattle.standard.specs.Formed.{Formed}
 use Rattle.standard.proofs.Fields.{values-held}
-use Rattle.promises.specs.Good.{textFor, packetsFor, Good}
+use Rattle.promises.specs.Good.{textFor, packetsFor, GoodValues}
 use Rattle.standard.proofs.Front.{Starts, starts-formed}
 
 -- the sixteen high bits of a head
-abbrev pub headBits : ℕ → ℕ
-headBits w = fieldOf w 16 16
+abbrev pub topBits : ℕ → ℕ
+topBits w = fieldOf w 16 16
 
-head-parts : (w st f : ℕ) → st < 0x400 → f < 4 → headBits w ≡ headBits (headWord st f) → (typeOf w ≡ streamType) × (formatOf w ≡ f) × (statusOf w ≡ st)
+head-parts : (w st f : ℕ) → st < 0x400 → f < 4 → topBits w ≡ topBits (headWord st f) → (typeOf w ≡ streamType) × (formatOf w ≡ f) × (statusOf w ≡ st)
 head-parts w st f hs hf e = (omega arith, omega arith, omega arith)
 
 -- n packets of a row with these values
 pub record Laid (b : Body) (r : Row) (n : ℕ) (v : Field → List ℕ) (ws : List ℕ) : Type 0 where
   pub some : 1 ≤ n
   pub room : n * 4 ≤ length ws
-  pub heads : (p : ℕ) → p < n → headBits (headAt ws p) ≡ headBits (headWord (r .status) (due n p))
+  pub heads : (p : ℕ) → p < n → topBits (headAt ws p) ≡ topBits (headWord (r .status) (dueFormat n p))
   pub fields : (p : ℕ) → p < n → reads (r .fields) (parts v) (packetFrom ws p)
   pub text : textOf ws (capacityIn b) n ≡ nonzero (textFor b v)
 
--- ---- THE MESSAGE: its record, and its text with zeros dropped
-module _ (k : Kind) (room : ℕ) (v : Field → List ℕ) (ws : List ℕ) (g : Good k room v) (l : Laid (layout k .body) (layout k) (packetsFor (layout k .body) v) v ws) where
+-- ---- THE MESSAGE: its record, and its text without zeros
+module _ (k : Kind) (room : ℕ) (v : Field → List ℕ) (ws : List ℕ) (g : GoodValues k room v) (l : Laid (layout k .body) (layout k) (packetsFor (layout k .body) v) v ws) where
   abbrev count : ℕ
   count = packetsFor (layout k .body) v
 
@@ -49,8 +49,8 @@ module _ (k : Kind) (room : ℕ) (v : Field → List ℕ) (ws : List ℕ) (g : G
   kind : kindIn (recordOf k count v) ≡ k
   kind = record-kind k count v
 
-  head-at : (p : ℕ) → p < count → (typeOf (headAt ws p) ≡ streamType) × (formatOf (headAt ws p) ≡ due count p) × (statusOf (headAt ws p) ≡ layout k .status)
-  head-at p h = head-parts (headAt ws p) (layout k .status) (due count p) (status-small k) (due-small count p) (l .heads p h)
+  head-at : (p : ℕ) → p < count → (typeOf (headAt ws p) ≡ streamType) × (formatOf (headAt ws p) ≡ dueFormat count p) × (statusOf (headAt ws p) ≡ layout k .status)
+  head-at p h = head-parts (headAt ws p) (layout k .status) (dueFormat count p) (status-small k) (due-format-small count p) (l .heads p h)
 
   below : (p : ℕ) → p < packetsIn (recordOf k count v) → p < count
   below p h = rw packets at h

@@ -1,4 +1,4 @@
--- ANY TWO OUTCOMES that a contract allows are equal: one law for each shape of contract, at the calls that have it. Closed by the equations themselves.
+-- ANY TWO OUTCOMES that a contract allows are equal: one law for each form of contract, and its use for each kind of call.
 use Prim.Native.Nat.{ℕ}
 use mathlib.Core.Path.{_≡_, sym, _∙_}
 use mathlib.Core.List.{List}
@@ -12,17 +12,17 @@ use Rattle.records.specs.declared.answers.Walked.{Walked}
 use Rattle.standard.specs.Place.{nextByte}
 use Rattle.standard.specs.Reading.{readOf}
 use Rattle.standard.specs.Walk.{walkOf}
-use Rattle.standard.specs.Words.{Left, freshOn, setOn, writeOn}
+use Rattle.standard.specs.Words.{Outcome, freshOn, setOn, writeOn}
 
 -- a call that only answers
 pub one-answer : {A : Type 0} (x : A) {a b : A} → a ≡ x → b ≡ x → a ≡ b
 one-answer x p q = p ∙ sym q
 
--- a call that answers and is lent words: the answer and every word
-pub one-outcome : (l : Left) {a b : Answer} {ws us : List ℕ} → (a ≡ l .answer) × (ws ≡ l .words) → (b ≡ l .answer) × (us ≡ l .words) → (a ≡ b) × (ws ≡ us)
+-- a call that answers and changes lent words
+pub one-outcome : (l : Outcome) {a b : Answer} {ws us : List ℕ} → (a ≡ l .answer) × (ws ≡ l .words) → (b ≡ l .answer) × (us ≡ l .words) → (a ≡ b) × (ws ≡ us)
 one-outcome l p q = (one-answer (l .answer) (p .0) (q .0), one-answer (l .words) (p .1) (q .1))
 
--- ---- at each kind of call
+-- ---- for each kind of call
 pub read-once : (ws : List ℕ) {a b : Read} → a ≡ readOf ws → b ≡ readOf ws → a ≡ b
 read-once ws = one-answer (readOf ws)
 

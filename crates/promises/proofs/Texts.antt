@@ -1,4 +1,4 @@
--- Text kinds: the buffer of given values, and a setting on it. Closed by the first word of a packet, over any row whose text starts at octet 2 to 15.
+-- Text kinds: the buffer of given values, and a setting on it. From the first word of a packet, for any row whose text starts at octet 2 to 15.
 use Prim.Native.Nat.{ℕ, _+_, _-_, _*_, _≤_, _<_}
 use mathlib.Core.Path.{_≡_, sym, ap, _∙_, fun-ext}
 use mathlib.Core.Bool.{true, false}
@@ -9,21 +9,21 @@ use lib.Seq.{getD-drop}
 use Rattle.laws.specs.Lists.{nonzero}
 use Rattle.laws.proofs.Bits.{get-above}
 use Rattle.laws.proofs.Pick.{split}
-use Rattle.slots.specs.Slots.{get, putAll, fits, sound, reads}
-use Rattle.slots.proofs.Slots.{get-clear, reads-all}
+use Rattle.slots.specs.Slots.{get, putAll, fits, disjoint, reads}
+use Rattle.slots.proofs.Slots.{get-apart-all, reads-all}
 use Rattle.utf8.proofs.Small.{valid-small}
-use Rattle.text.specs.Octets.{needed, due}
+use Rattle.text.specs.Octets.{needed, dueFormat}
 use Rattle.text.specs.Written.{wordIn, written, eachFirst}
 use Rattle.text.specs.Bytes.{textOf}
 use Rattle.text.proofs.Written.{length-written, word-at}
 use Rattle.text.proofs.Back.{text-back}
-use Rattle.text.proofs.Needed.{needed-holds, needed-some, due-small}
+use Rattle.text.proofs.Needed.{needed-holds, needed-some, due-format-small}
 use Rattle.kinds.specs.Fields.{Text, Field, Setting, fieldIn, valueIn, textIn, same}
 use Rattle.kinds.specs.Layout.{Part, texts, Row, slotsOf, parts, valuesIn, headSlot}
 use Rattle.records.specs.Settings.{with}
 use Rattle.standard.specs.Heads.{headWord, packetsOf, packetFrom, headAt}
 use Rattle.standard.specs.Words.{putWord, headOf, textWritten, encodeIn, actIn}
-use Rattle.promises.specs.Good.{GoodIn}
+use Rattle.promises.specs.Good.{GoodValuesIn}
 use Rattle.slots.proofs.Tables.{reads-words, put-alike}
 use Rattle.standard.proofs.OneWord.{put-those-word}
 use Rattle.standard.proofs.TextHead.{lowText, first-splits, head-small, head-first}
@@ -32,7 +32,7 @@ use Rattle.kinds.proofs.Rows.{TextRow}
 use Rattle.kinds.proofs.Fields.{same-true, same-refl, same-swap, value-text}
 use Rattle.records.proofs.With.{parts-with, parts-text}
 use Rattle.standard.proofs.Accepted.{Accepted}
-use Rattle.promises.proofs.Laid.{headBits, Laid}
+use Rattle.promises.proofs.Laid.{topBits, Laid}
 use Rattle.promises.proofs.Changed.{good-with}
 
 module _ (r : Row) (x : Text) (from : ℕ) (k : TextRow r from) (ws : List ℕ) where
@@ -43,7 +43,7 @@ module _ (r : Row) (x : Text) (from : ℕ) (k : TextRow r from) (ws : List ℕ) 
   unfolding encodeIn
   text-length v = length-written (v (Field.text x)) (headOf r v) cap (needed cap (length (v (Field.text x)))) ws
 
-  module _ (v : Field → List ℕ) (g : GoodIn (texts x from) (r .fields) (packetsOf ws) v) where
+  module _ (v : Field → List ℕ) (g : GoodValuesIn (texts x from) (r .fields) (packetsOf ws) v) where
     abbrev text : List ℕ
     text = v (Field.text x)
 
@@ -60,10 +60,10 @@ module _ (r : Row) (x : Text) (from : ℕ) (k : TextRow r from) (ws : List ℕ) 
     abbrev bare : ℕ → ℕ
     bare p = wordIn text (headWord (r .status)) cap count p 0
 
-    bare-head : (p : ℕ) → headBits (bare p) ≡ headBits (headWord (r .status) (due count p))
+    bare-head : (p : ℕ) → topBits (bare p) ≡ topBits (headWord (r .status) (dueFormat count p))
     bare-head p =
-        let h = first-splits text small count p (headWord (r .status)) (head-small (r .status) (due count p) (k .status) (due-small count p)) from (k .least) (k .most) in
-        ap headBits (h .1) ∙ get-above (headWord (r .status) (due count p)) 0 (32 - from * 8) (lowText text small count p from) 16 16 (h .0) (let l = k .least in omega arith)
+        let h = first-splits text small count p (headWord (r .status)) (head-small (r .status) (dueFormat count p) (k .status) (due-format-small count p)) from (k .least) (k .most) in
+        ap topBits (h .1) ∙ get-above (headWord (r .status) (dueFormat count p)) 0 (32 - from * 8) (lowText text small count p from) 16 16 (h .0) (let l = k .least in omega arith)
 
     word-put : (u : Field → List ℕ) → fits (r .fields) (parts u) ≡ true → (p : ℕ) → wordIn text (headOf r u) cap count p 0 ≡ putWord (r .fields) (parts u) (bare p)
     word-put u f p = head-first text small count p from (r .status) (k .least) (k .most) (k .status) (r .fields) (k .text) (k .bits) (k .first) (parts u) f
@@ -74,10 +74,10 @@ module _ (r : Row) (x : Text) (from : ℕ) (k : TextRow r from) (ws : List ℕ) 
         let e : p * 4 ≡ p * 4 + 0 = omega arith in
         ap (λ (i : ℕ). getD (written ws text (headOf r v) cap count) i 0) e ∙ word-at text (headOf r v) cap count ws p 0 room h (omega arith) ∙ word-put v (g .numbers) p
 
-    -- ---- what each packet holds
-    put-bits : (w : ℕ) → headBits (putWord (r .fields) (parts v) w) ≡ headBits w
+    -- ---- the contents of each packet
+    put-bits : (w : ℕ) → topBits (putWord (r .fields) (parts v) w) ≡ topBits w
     unfolding putWord get
-    put-bits w = get-clear headSlot (r .fields) (parts v) (w ∷ []) (k .head) (g .numbers)
+    put-bits w = get-apart-all headSlot (r .fields) (parts v) (w ∷ []) (k .head) (g .numbers)
 
     put-reads : (w : ℕ) (l : List ℕ) → getD l 0 0 ≡ putWord (r .fields) (parts v) w → reads (r .fields) (parts v) l
     unfolding putWord
@@ -102,12 +102,12 @@ module _ (r : Row) (x : Text) (from : ℕ) (k : TextRow r from) (ws : List ℕ) 
         record {
           some = let b = k .most in needed-some cap (length text) (omega arith);
           room = rw (text-length v) room;
-          heads = λ p h. ap headBits (first-put p h) ∙ put-bits (bare p) ∙ bare-head p;
+          heads = λ p h. ap topBits (first-put p h) ∙ put-bits (bare p) ∙ bare-head p;
           fields = text-reads;
           text = read-text;
         }
 
-    -- ---- A SETTING: text, which keeps the fields of its head
+    -- ---- A SETTING of the text: it keeps the fields of the head
     module _ (hold : reads (r .fields) (parts (valuesIn (r .fields) (encodeIn (texts x from) r ws v))) (encodeIn (texts x from) r ws v)) where
       first-reads : reads (r .fields) (parts v) (encodeIn (texts x from) r ws v)
       first-reads = let b = k .most in text-reads 0 (needed-some cap (length text) (omega arith))
@@ -120,7 +120,7 @@ module _ (r : Row) (x : Text) (from : ℕ) (k : TextRow r from) (ws : List ℕ) 
       unfolding encodeIn
       text-set new = rw head-held (written-over ws text new (headOf r v) (headOf r v) cap count (needed cap (length new)))
 
-    -- ---- or a field of its head, in each packet
+    -- ---- a setting of a field of the head, in each packet
     module _ (s : Setting) (a : Accepted (texts x from) (r .fields) (packetsOf ws) s) where
       abbrev new : Field → List ℕ
       new = with (fieldIn s) (valueIn s) v

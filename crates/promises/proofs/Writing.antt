@@ -1,4 +1,4 @@
--- Writing a record, and reading it back. Closed by the buffer of good values: a record's own values are good where they fit.
+-- Writing a record, and reading it back. From the buffer of good values: a record's values are good if they fit.
 use Prim.Native.Nat.{ℕ, _*_, _≤_}
 use mathlib.Core.Path.{_≡_, refl, sym, ap, _∙_}
 use mathlib.Core.Bool.{Bool, true, false, not}
@@ -23,9 +23,9 @@ use Rattle.records.specs.Records.{kindIn, packetsIn, recordOf, valuesOf}
 use Rattle.records.proofs.Records.{record-back, refused-done, port-named, direction-named}
 use Rattle.standard.specs.Heads.{packetsOf}
 use Rattle.standard.specs.Reading.{valuesAt, readOf}
-use Rattle.standard.specs.Words.{Left, left, unchanged, noPacket, encode, writeOn}
+use Rattle.standard.specs.Words.{Outcome, outcome, unchanged, noPacket, encode, writeOn}
 use Rattle.standard.proofs.Formed.{read-formed}
-use Rattle.promises.specs.Good.{textFor, packetsFor, Good}
+use Rattle.promises.specs.Good.{textFor, packetsFor, GoodValues}
 use Rattle.promises.specs.Values.{packetsNeeded, recordFor}
 use Rattle.slots.proofs.Tables.{reads-fits, gets-alike}
 use Rattle.promises.proofs.Encode.{encode-holds, encode-read}
@@ -46,9 +46,9 @@ unfolding needed
 no-text fixed v h = (empty, refl, omega arith)
 no-text (texts x from) v h = true-false h
 
--- ---- what writing needs, and what it leaves
+-- ---- what writing needs, and what it gives
 module _ (m : Message) (ws : List ℕ) (fixed-kind : hasText (layout (kindIn m) .body) ≡ false) (small : fits (layout (kindIn m) .fields) (parts (valuesOf m)) ≡ true) (l : 4 ≤ length ws) where
-  good : Good (kindIn m) (packetsOf ws) (valuesOf m)
+  good : GoodValues (kindIn m) (packetsOf ws) (valuesOf m)
   good =
       let t = no-text (layout (kindIn m) .body) (valuesOf m) fixed-kind in
       record {
@@ -60,7 +60,7 @@ module _ (m : Message) (ws : List ℕ) (fixed-kind : hasText (layout (kindIn m) 
         direction = direction-named m;
       }
 
-  write-is : writeOn m ws ≡ left A.Done (encode (kindIn m) ws (valuesOf m))
+  write-is : writeOn m ws ≡ outcome A.Done (encode (kindIn m) ws (valuesOf m))
   unfolding writeOn
   write-is =
       sym
@@ -82,8 +82,8 @@ module _ (m : Message) (ws : List ℕ) (fixed-kind : hasText (layout (kindIn m) 
       rw write-is
       (ap (λ (c : ℕ). readOf (take (c * 4) (encode (kindIn m) ws (valuesOf m)))) (sym n) ∙ encode-read (kindIn m) ws l (valuesOf m) good ∙ ap R.Message is-back)
 
--- ---- where it is accepted, and only there
-passed-done : (t : Bool) (x y : Left) → (x .answer ≡ A.Done → ⊥) → pick t x y .answer ≡ A.Done → (t ≡ false) × (y .answer ≡ A.Done)
+-- ---- when it is accepted
+passed-done : (t : Bool) (x y : Outcome) → (x .answer ≡ A.Done → ⊥) → pick t x y .answer ≡ A.Done → (t ≡ false) × (y .answer ≡ A.Done)
 passed-done true x y n e = absurd (n e)
 passed-done false x y n e = (refl, e)
 
@@ -105,7 +105,7 @@ write-done m ws e =
 pub written-read : (m : Message) (ws : List ℕ) → writeOn m ws .answer ≡ A.Done → readOf (take 4 (writeOn m ws .words)) ≡ R.Message m
 written-read m ws e = let w = write-done m ws e in write-read m ws (w .fixed-kind) (w .small) (w .room)
 
--- ---- A RECORD THAT WAS READ can be written, and each field is as it was
+-- ---- A RECORD THAT WAS READ can be written, with every field unchanged
 module _ (as-read ws : List ℕ) (m : Message) (e : readOf as-read ≡ R.Message m) where
   held-there : reads (layout (kindIn m) .fields) (parts (valuesOf m)) as-read
   held-there = let f = read-formed as-read m e in f .fields 0 (f .some)
@@ -114,7 +114,7 @@ module _ (as-read ws : List ℕ) (m : Message) (e : readOf as-read ≡ R.Message
   read-fits = reads-fits _ _ as-read held-there
 
   module _ (fixed-kind : hasText (layout (kindIn m) .body) ≡ false) (l : 4 ≤ length ws) where
-    pub read-written : writeOn m ws ≡ left A.Done (encode (kindIn m) ws (valuesOf m))
+    pub read-written : writeOn m ws ≡ outcome A.Done (encode (kindIn m) ws (valuesOf m))
     read-written = write-is m ws fixed-kind read-fits l
 
     pub written-same : (f : Field) → valuesAt (kindIn m) (writeOn m ws .words) f ≡ valuesAt (kindIn m) as-read f

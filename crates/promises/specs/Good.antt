@@ -1,4 +1,4 @@
--- What the values of a message keep, whatever is set: its numbers fit, its text is UTF-8 and finds room, its choices are named ones.
+-- Good values of a message, which every setting preserves: its numbers fit, its text is UTF-8 and has room, its port and direction are valid.
 use Prim.Native.Nat.{ℕ, _≤_}
 use mathlib.Core.Path.{_≡_}
 use mathlib.Core.Bool.{true}
@@ -13,16 +13,17 @@ use Rattle.kinds.specs.Choices.{noPort, noDirection}
 use Rattle.kinds.specs.Fields.{Field}
 use Rattle.kinds.specs.Layout.{Part, Body, fixed, texts, layout, capacityIn, mostIn, parts}
 
--- the text among the values: none of a fixed kind
+-- the text among the values; empty for a fixed kind
 abbrev pub textFor : Body → (Field → List ℕ) → List ℕ
 textFor fixed v = []
 textFor (texts t from) v = v (Field.text t)
 
--- the packets of a message with these values: one of a fixed kind
+-- the packets of a message with these values; one for a fixed kind
 abbrev pub packetsFor : Body → (Field → List ℕ) → ℕ
 packetsFor b v = needed (capacityIn b) (length (textFor b v))
 
-pub record GoodIn (b : Body) (t : List (Slot Part)) (room : ℕ) (v : Field → List ℕ) : Type 0 where
+-- values are good for a body and a table, in at most `room` packets
+pub record GoodValuesIn (b : Body) (t : List (Slot Part)) (room : ℕ) (v : Field → List ℕ) : Type 0 where
   pub numbers : fits t (parts v) ≡ true
   pub valid : Valid (textFor b v)
   pub most : packetsFor b v ≤ mostIn b
@@ -30,6 +31,6 @@ pub record GoodIn (b : Body) (t : List (Slot Part)) (room : ℕ) (v : Field → 
   pub port : getD (v Field.midi1-port) 0 0 ≢ noPort
   pub direction : getD (v Field.direction) 0 0 ≢ noDirection
 
--- values for a message of a kind in so many packets
-abbrev pub Good : Kind → ℕ → (Field → List ℕ) → Type 0
-Good k room v = GoodIn (layout k .body) (layout k .fields) room v
+-- values for a message of kind k in at most `room` packets
+abbrev pub GoodValues : Kind → ℕ → (Field → List ℕ) → Type 0
+GoodValues k room v = GoodValuesIn (layout k .body) (layout k .fields) room v

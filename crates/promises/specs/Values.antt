@@ -1,4 +1,4 @@
--- The message of given values, and the values after one setting and after a list.
+-- The message with given values, and the values after one setting and after a list of settings.
 use Prim.Native.Nat.{ℕ, _*_}
 use mathlib.Core.List.{List}
 use lib.ListN.{take}
@@ -9,30 +9,33 @@ use Rattle.kinds.specs.Layout.{layout}
 use Rattle.records.specs.declared.message.Message.{Message}
 use Rattle.records.specs.Records.{recordOf}
 use Rattle.standard.specs.Words.{answerTo, encode}
-use Rattle.standard.specs.Lists.{Told, isDone, last}
+use Rattle.standard.specs.Lists.{SettingAnswer, isDone, lastAccepted}
 use Rattle.promises.specs.Good.{textFor, packetsFor}
 
--- its packets, its record, its text as it was given, and its words in a buffer
+-- the number of its packets
 abbrev pub packetsNeeded : Kind → (Field → List ℕ) → ℕ
 packetsNeeded k v = packetsFor (layout k .body) v
 
+-- its record
 abbrev pub recordFor : Kind → (Field → List ℕ) → Message
 recordFor k v = recordOf k (packetsNeeded k v) v
 
+-- its text as given
 abbrev pub textGiven : Kind → (Field → List ℕ) → List ℕ
 textGiven k v = textFor (layout k .body) v
 
+-- its words in a buffer
 abbrev pub wordsFor : Kind → List ℕ → (Field → List ℕ) → List ℕ
 wordsFor k ws v = take (packetsNeeded k v * 4) (encode k ws v)
 
--- the values after a setting: the field's new one, where it is accepted
+-- the values after a setting: the field's new value, if it is accepted
 abbrev pub changed : Kind → ℕ → Setting → (Field → List ℕ) → Field → List ℕ
 changed k room s v f = pick (both (isDone (answerTo (layout k) room s)) (same f (fieldIn s))) (valueIn s) (v f)
 
--- after a list, from a fresh message on: each field's last accepted value, or its start
-abbrev pub lasting : Kind → ℕ → List Setting → Field → List ℕ
-lasting k room ss f = last k room f (start f) ss
+-- the values after a list on a fresh message: each field's last accepted value, or its starting value
+abbrev pub lastValues : Kind → ℕ → List Setting → Field → List ℕ
+lastValues k room ss f = lastAccepted k room f (start f) ss
 
--- the field of a setting that was answered
-abbrev pub fieldTold : Told → Field
-fieldTold t = fieldIn (t .setting)
+-- the field of an answered setting
+abbrev pub fieldAnswered : SettingAnswer → Field
+fieldAnswered t = fieldIn (t .setting)

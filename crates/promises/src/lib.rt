@@ -1,1 +1,1 @@
-// What document 01 promises of lists of settings and of what is read back: theorems only. No function.
+// Theorems about lists of settings and about reading back, as document 01 promises them. It has no functions.

@@ -15,7 +15,7 @@ use Rattle.utf8.specs.Utf8.{firstBad}
 use Rattle.utf8.specs.declared.Utf8.{Utf8}
 use Rattle.utf8.specs.declared.Utf8.the-variants.{Good, BadAt}
 use Rattle.text.specs.Bytes.{allBytes, textOf}
-use Rattle.fast_text.specs.Fast.{isGood}
+use Rattle.text_check.specs.FastCheck.{isGood}
 use Rattle.kinds.specs.declared.kind.Kind.{Kind}
 use Rattle.kinds.specs.declared.refusal.Refusal.the-variants.{NotUtf8}
 use Rattle.kinds.specs.Choices.{noPort, noDirection}

@@ -12,9 +12,9 @@ use Rattle.laws.specs.Pick.{pick, differ}
 use borrow.Author.Tests.{leb-false, lt-leb, lt-ltb, le-ltb, ne-eqb, eqb-true}
 use Rattle.laws.proofs.Pick.{true-false, split, here, past, passed, eq-differ, ne-differ, differ-false}
 use Rattle.utf8.specs.Utf8.{firstBad}
-use Rattle.text.specs.Octets.{due}
+use Rattle.text.specs.Octets.{dueFormat}
 use Rattle.text.specs.Bytes.{textOf}
-use Rattle.fast_text.specs.Fast.{isGood}
+use Rattle.text_check.specs.FastCheck.{isGood}
 use Rattle.kinds.specs.declared.kind.Kind.{Kind}
 use Rattle.kinds.specs.Layout.{mostOf}
 use Rattle.standard.specs.Heads.{typeOf, formatOf, streamType, headAt, packetsOf}
@@ -26,11 +26,11 @@ module _ (ws : List ℕ) (offset p : ℕ) (more : p < 64) where
   left : 64 - p ≡ suc (64 - (p + 1))
   left = omega arith
 
-  pub turn-goes : likeFirst ws offset p ≡ true → eqb (formatOf (headAt ws p)) (due (p + 2) p) ≡ true → headedFrom (64 - p) ws offset p ≡ headedFrom (64 - (p + 1)) ws offset (p + 1)
+  pub turn-goes : likeFirst ws offset p ≡ true → eqb (formatOf (headAt ws p)) (dueFormat (p + 2) p) ≡ true → headedFrom (64 - p) ws offset p ≡ headedFrom (64 - (p + 1)) ws offset (p + 1)
   unfolding headedFrom
   turn-goes l f = rw (left, l, f)
 
-  pub turn-ends : likeFirst ws offset p ≡ true → eqb (formatOf (headAt ws p)) (due (p + 2) p) ≡ false → headedFrom (64 - p) ws offset p ≡ endsAt (formatOf (headAt ws p)) p
+  pub turn-ends : likeFirst ws offset p ≡ true → eqb (formatOf (headAt ws p)) (dueFormat (p + 2) p) ≡ false → headedFrom (64 - p) ws offset p ≡ endsAt (formatOf (headAt ws p)) p
   unfolding headedFrom
   turn-ends l f = rw (left, l, f)
 
@@ -70,8 +70,8 @@ pub like-there : (ws : List ℕ) (offset p : ℕ) → likeFirst ws offset p ≡ 
 like-there ws offset p e = like ws offset p e .there
 
 -- the format of a packet before another is the one due, however many come
-due-more : (n i : ℕ) → i + 1 < n → due (i + 2) i ≡ due n i
-unfolding due
+due-more : (n i : ℕ) → i + 1 < n → dueFormat (i + 2) i ≡ dueFormat n i
+unfolding dueFormat
 due-more n zero h = let a : leb n 1 ≡ false = lt-leb n 1 (omega arith) in rw a
 due-more n (suc i) h =
     let a : leb n 1 ≡ false = lt-leb n 1 (omega arith) in
@@ -85,14 +85,14 @@ due-more n (suc i) h =
 record From (ws : List ℕ) (offset n p : ℕ) : Type 0 where
   some : p < n
   each : (i : ℕ) → p ≤ i → i < n → Like ws offset i
-  format : (i : ℕ) → p ≤ i → i < n → formatOf (headAt ws i) ≡ due n i
+  format : (i : ℕ) → p ≤ i → i < n → formatOf (headAt ws i) ≡ dueFormat n i
 
 -- one packet more, in front of them or alone
-module _ (ws : List ℕ) (offset n p : ℕ) (l : Like ws offset p) (f : formatOf (headAt ws p) ≡ due n p) (room : p < n) where
-  from-more : ((i : ℕ) → p < i → i < n → Like ws offset i × (formatOf (headAt ws i) ≡ due n i)) → From ws offset n p
+module _ (ws : List ℕ) (offset n p : ℕ) (l : Like ws offset p) (f : formatOf (headAt ws p) ≡ dueFormat n p) (room : p < n) where
+  from-more : ((i : ℕ) → p < i → i < n → Like ws offset i × (formatOf (headAt ws i) ≡ dueFormat n i)) → From ws offset n p
   from-more rest = record { some = room; each = λ i a b. go i (decLt p i) a b .0; format = λ i a b. go i (decLt p i) a b .1 }
     where
-      go : (i : ℕ) → Dec (p < i) → p ≤ i → i < n → Like ws offset i × (formatOf (headAt ws i) ≡ due n i)
+      go : (i : ℕ) → Dec (p < i) → p ≤ i → i < n → Like ws offset i × (formatOf (headAt ws i) ≡ dueFormat n i)
       go i (yes h) a b = rest i h b
       go i (no h) a b = let e : i ≡ p = omega arith in rw e (l, f)
 
@@ -104,19 +104,19 @@ saw ws offset (suc left) p n e h = split (likeFirst ws offset p) (some (λ q. sa
     f : ℕ
     f = formatOf (headAt ws p)
 
-    goes : (headedFrom left ws offset (p + 1) ≡ n → From ws offset n (p + 1) × (n ≤ p + 1 + left)) → likeFirst ws offset p ≡ true → eqb f (due (p + 2) p) ≡ true → From ws offset n p × (n ≤ p + suc left)
+    goes : (headedFrom left ws offset (p + 1) ≡ n → From ws offset n (p + 1) × (n ≤ p + 1 + left)) → likeFirst ws offset p ≡ true → eqb f (dueFormat (p + 2) p) ≡ true → From ws offset n p × (n ≤ p + suc left)
     goes next l g =
         let r = next (rw (l, g) at e) in
         let a = r .0 .some in
         (from-more ws offset n p (like ws offset p l) (eqb-true _ _ g ∙ due-more n p (omega arith)) (omega arith) (λ i x y. (r .0 .each i (omega arith) y, r .0 .format i (omega arith) y)), omega (arith, r .1))
 
-    ends : likeFirst ws offset p ≡ true → eqb f (due (p + 2) p) ≡ false → From ws offset n p × (n ≤ p + suc left)
-    ends l g = split (eqb f (due (p + 1) p))
-        (λ t. let q : p + 1 ≡ n = rw (l, g, t) at e in (from-more ws offset n p (like ws offset p l) (eqb-true _ _ t ∙ ap (λ (k : ℕ). due k p) q) (omega arith) (λ i x y. absurd (omega arith)), omega arith))
+    ends : likeFirst ws offset p ≡ true → eqb f (dueFormat (p + 2) p) ≡ false → From ws offset n p × (n ≤ p + suc left)
+    ends l g = split (eqb f (dueFormat (p + 1) p))
+        (λ t. let q : p + 1 ≡ n = rw (l, g, t) at e in (from-more ws offset n p (like ws offset p l) (eqb-true _ _ t ∙ ap (λ (k : ℕ). dueFormat k p) q) (omega arith) (λ i x y. absurd (omega arith)), omega arith))
         (λ t. let q : 0 ≡ n = rw (l, g, t) at e in absurd (omega arith))
 
     some : (headedFrom left ws offset (p + 1) ≡ n → From ws offset n (p + 1) × (n ≤ p + 1 + left)) → likeFirst ws offset p ≡ true → From ws offset n p × (n ≤ p + suc left)
-    some next l = split (eqb f (due (p + 2) p)) (goes next l) (ends l)
+    some next l = split (eqb f (dueFormat (p + 2) p)) (goes next l) (ends l)
 
     none : likeFirst ws offset p ≡ false → From ws offset n p × (n ≤ p + suc left)
     none l = let q : 0 ≡ n = rw l at e in absurd (omega arith)
@@ -127,7 +127,7 @@ pub record Headed (ws : List ℕ) (offset n : ℕ) : Type 0 where
   pub most : n ≤ 64
   pub type : typeOf (headAt ws 0) ≡ streamType
   pub each : (p : ℕ) → p < n → Like ws offset p
-  pub format : (p : ℕ) → p < n → formatOf (headAt ws p) ≡ due n p
+  pub format : (p : ℕ) → p < n → formatOf (headAt ws p) ≡ dueFormat n p
 
 pub headed-seen : (ws : List ℕ) (offset n : ℕ) → headedPackets ws offset ≡ n → 0 < n → Headed ws offset n
 unfolding headedPackets

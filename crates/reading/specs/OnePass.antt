@@ -7,9 +7,9 @@ use lib.Dec.{leb, ltb, eqb}
 use Rattle.laws.specs.Pick.{pick, differ}
 use Rattle.laws.specs.Bits.{putField}
 use Rattle.utf8.specs.Utf8.{firstBad}
-use Rattle.text.specs.Octets.{due}
+use Rattle.text.specs.Octets.{dueFormat}
 use Rattle.text.specs.Bytes.{textOf}
-use Rattle.fast_text.specs.Fast.{isGood}
+use Rattle.text_check.specs.FastCheck.{isGood}
 use Rattle.kinds.specs.declared.kind.Kind.{Kind}
 use Rattle.kinds.specs.declared.kind.Kind.the-variants as K
 use Rattle.kinds.specs.Layout.{mostOf}
@@ -30,14 +30,14 @@ likeFirst ws offset p = pick (leb (packetsOf ws) p) false (eqb (headBits (headAt
 
 -- the packets of a message whose packet p has a format, where it is the last one's
 unfoldable pub endsAt : ℕ → ℕ → ℕ
-endsAt format p = pick (eqb format (due (p + 1) p)) (p + 1) 0
+endsAt format p = pick (eqb format (dueFormat (p + 1) p)) (p + 1) 0
 
 -- from packet p on, of which at most `left` may come: one with the format of a packet before another goes on
 unfoldable pub headedFrom : ℕ → List ℕ → ℕ → ℕ → ℕ
 headedFrom zero ws offset p = 0
 headedFrom (suc left) ws offset p =
     pick (likeFirst ws offset p)
-    (pick (eqb (formatOf (headAt ws p)) (due (p + 2) p)) (headedFrom left ws offset (p + 1)) (endsAt (formatOf (headAt ws p)) p))
+    (pick (eqb (formatOf (headAt ws p)) (dueFormat (p + 2) p)) (headedFrom left ws offset (p + 1)) (endsAt (formatOf (headAt ws p)) p))
     0
 
 -- the packets of the message at the start of the words, as its heads say; 0 where they are not right

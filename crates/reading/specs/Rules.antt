@@ -5,7 +5,7 @@ use mathlib.Core.List.{List}
 use lib.Dec.{eqb}
 use Rattle.laws.specs.Pick.{pick, differ}
 use Rattle.laws.specs.Bits.{fieldOf}
-use Rattle.text.specs.Octets.{due}
+use Rattle.text.specs.Octets.{dueFormat}
 use Rattle.standard.specs.Heads.{typeOf, formatOf, statusOf, streamType, headAt, packetsOf}
 use Rattle.reading.specs.declared.rules.Rule.{Rule}
 use Rattle.reading.specs.declared.rules.Rule.the-variants as U
@@ -14,7 +14,7 @@ use Rattle.reading.specs.declared.rules.Rule.the-variants as U
 unfoldable pub breaksOf : Rule → ℕ → ℕ → ℕ → ℕ → Bool
 breaksOf U.Type w0 w p n = differ (typeOf w) streamType
 breaksOf U.Status w0 w p n = differ (statusOf w) (statusOf w0)
-breaksOf U.Format w0 w p n = differ (formatOf w) (due n p)
+breaksOf U.Format w0 w p n = differ (formatOf w) (dueFormat n p)
 breaksOf U.FunctionBlock w0 w p n = differ (fieldOf w 8 8) (fieldOf w0 8 8)
 
 abbrev pub brokenBy : Rule → List ℕ → ℕ → Bool

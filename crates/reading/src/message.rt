@@ -19,12 +19,12 @@ use crate::product_instance_id;
 use crate::rules::Rule;
 use crate::rules::first_broken;
 use counts::PacketNumber;
-use fast_text::good_text;
 use kinds::kind::Kind;
 use kinds::kind::Known;
 use kinds::refusal::Refusal;
 use records::answers::Read;
 use table::rows::kind_of;
+use text_check::good_text;
 
 // A fixed kind is one packet, text at most 64.
 pub fn most_packets(kind: Kind) -> usize

@@ -6,9 +6,9 @@ ghost use Rattle.reading.specs.OnePass.{textBits, headBits, likeFirst, e
 use crate::heads::format_of;
 use crate::heads::type_of;
 use counts::PacketNumber;
-use fast_text::good_text;
 use kinds::kind::Kind;
 use text::packets::due_format;
+use text_check::good_text;
 
 // The low bits of a packet's first word that may be text.
 fn text_bits(offset: usize) -> u32

@@ -20,7 +20,7 @@ use Rattle.records.specs.declared.answers.Walked.the-variants as W
 use Rattle.records.specs.Records.{kindIn, packetsIn}
 use Rattle.standard.specs.Heads.{packetsOf}
 use Rattle.standard.specs.Walk.{walkOf}
-use Rattle.standard.specs.Words.{Left, left, unchanged, missing, answerTo, afterAnswer, setMessage, setWalked, setOn}
+use Rattle.standard.specs.Words.{Outcome, outcome, unchanged, missing, answerTo, afterAnswer, setMessage, setWalked, setOn}
 use Rattle.walking.proofs.Stands.{walk-formed}
 use Rattle.settings.specs.declared.target.Target.the-variants as T
 use Rattle.settings.specs.Target.{ownIn, targetOf}
@@ -48,8 +48,8 @@ module _ (k : Kind) (s : Setting) (own : ownedBy k s ≡ true) where
   own-has = lacking k ∙ eq-differ (layout k .status) _ refl
 
 -- what an accepted or refused setting leaves of a message of n packets of a kind
-abbrev setOwn : Kind → ℕ → Setting → List ℕ → Left
-setOwn k n s ws = left (answerTo (layout k) (packetsOf ws) s) (afterAnswer (answerTo (layout k) (packetsOf ws) s) (layout k) n s ws)
+abbrev setOwn : Kind → ℕ → Setting → List ℕ → Outcome
+setOwn k n s ws = outcome (answerTo (layout k) (packetsOf ws) s) (afterAnswer (answerTo (layout k) (packetsOf ws) s) (layout k) n s ws)
 
 -- the packets of the target are the buffer's, and the setting is the kind's own
 pub record Own (k : Kind) (n : ℕ) (s : Setting) (ws : List ℕ) : Type 0 where

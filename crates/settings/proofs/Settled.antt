@@ -9,12 +9,12 @@ use Rattle.table.specs.declared.rows.Row.{Row}
 use Rattle.table.specs.Rows.{RowIs, tableRow}
 use Rattle.standard.specs.Walk.{walkOf}
 use Rattle.kinds.specs.declared.refusal.Refusal.{Refusal}
-use Rattle.standard.specs.Words.{Left, unchanged}
+use Rattle.standard.specs.Words.{Outcome, unchanged}
 use Rattle.settings.specs.declared.target.Target.{Target}
 use Rattle.settings.specs.declared.target.Target.the-variants as T
 use Rattle.settings.specs.Target.{targetOf, settled}
 
-module _ {t : Target} (act : ℕ → Left) (ws : List ℕ) where
+module _ {t : Target} (act : ℕ → Outcome) (ws : List ℕ) where
   pub settled-refused : {r : Refusal} → t ≡ T.Refused r → settled t act ws ≡ unchanged r ws
   settled-refused e = rw e
 

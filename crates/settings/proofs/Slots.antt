@@ -8,7 +8,7 @@ use lib.Dec.{ltb, leb}
 use borrow.Author.Tests.{lt-ltb, le-ltb, leb-true, leb-false}
 use Rattle.laws.specs.Pick.{pick, both}
 use Rattle.laws.proofs.Pick.{split, both-alone}
-use Rattle.slots.specs.Slots.{Slot, fits, those, within}
+use Rattle.slots.specs.Slots.{Slot, fits, those, bitsWithin}
 use Rattle.counts.specs.declared.PacketNumber.{PacketNumber}
 use Rattle.utf8.specs.Utf8.{firstBad}
 use Rattle.text.specs.Octets.{needed}
@@ -22,7 +22,7 @@ use Rattle.records.specs.declared.answers.Answer.the-variants as A
 use Rattle.records.specs.Settings.{tooLarge}
 use Rattle.standard.specs.Heads.{packetsOf}
 use Rattle.standard.specs.Walk.{walkOf}
-use Rattle.standard.specs.Words.{left, unchanged, missing, answerTo, actIn, setOn}
+use Rattle.standard.specs.Words.{outcome, unchanged, missing, answerTo, actIn, setOn}
 use Rattle.buffer.specs.Filling.{putIn, putIns}
 use Rattle.table.specs.Places.{slotAt}
 use Rattle.numbers.specs.BySlot.{fitFrom, putFrom}
@@ -46,7 +46,7 @@ module _ (status word at span v : ℕ) (ws : List ℕ) where
     unfolding placeOn
     place-large h = settled-own _ ws e ∙ rw (le-ltb v (2 ^ span) (leb-true (2 ^ span) v h))
 
-    pub place-done : leb (2 ^ span) v ≡ false → placeOn status word at span v ws ≡ left A.Done (putIn word at span v ws)
+    pub place-done : leb (2 ^ span) v ≡ false → placeOn status word at span v ws ≡ outcome A.Done (putIn word at span v ws)
     unfolding placeOn
     place-done h = settled-own _ ws e ∙ rw (lt-ltb v (2 ^ span) (leb-false (2 ^ span) v h))
 
@@ -65,7 +65,7 @@ module _ (k : Kind) (i : ℕ) (xs ws : List ℕ) where
     unfolding slotsOn
     slots-large h = settled-own _ ws e ∙ rw h
 
-    pub slots-done : fitFrom (layout k .fields) i xs ≡ true → slotsOn k i xs ws ≡ left A.Done (putFrom (layout k .fields) i xs ws)
+    pub slots-done : fitFrom (layout k .fields) i xs ≡ true → slotsOn k i xs ws ≡ outcome A.Done (putFrom (layout k .fields) i xs ws)
     unfolding slotsOn
     slots-done h = settled-own _ ws e ∙ rw h
 
@@ -78,9 +78,9 @@ pub record Facts : Type 0 where
   pub text : List ℕ
 
 unfoldable pub facts : Kind → Setting → Facts
-unfolding layout those same decided partOf both everyKind ownedBy within
+unfolding layout those same decided partOf both everyKind ownedBy bitsWithin
 facts k s =
-    record { own = ownedBy k s; narrow = within 32 (slotsOf (fieldIn s) (layout k .fields)); body = layout k .body; slots = slotsOf (fieldIn s) (layout k .fields); text = textIn s }
+    record { own = ownedBy k s; narrow = bitsWithin 32 (slotsOf (fieldIn s) (layout k .fields)); body = layout k .body; slots = slotsOf (fieldIn s) (layout k .fields); text = textIn s }
 
 -- a field of this kind alone, without text, in these slots
 abbrev pub plain : Body → List (Slot Part) → Facts
@@ -96,9 +96,9 @@ module _ (k : Kind) (s : Setting) (b : Body) (t : List (Slot Part)) (f : facts k
   unfolding facts
   is-own = ap (λ (x : Facts). x .own) f
 
-  pub is-narrow : within 32 t ≡ true
+  pub is-narrow : bitsWithin 32 t ≡ true
   unfolding facts
-  is-narrow = ap (within 32) (sym (ap (λ (x : Facts). x .slots) f)) ∙ ap (λ (x : Facts). x .narrow) f
+  is-narrow = ap (bitsWithin 32) (sym (ap (λ (x : Facts). x .slots) f)) ∙ ap (λ (x : Facts). x .narrow) f
 
   pub is-body : layout k .body ≡ b
   unfolding facts
@@ -122,7 +122,7 @@ module _ (k : Kind) (s : Setting) (t : List (Slot Part)) (f : facts k s ≡ plai
   unfolding actIn
   own-fixed n o =
       o .set ∙ split (fits t (parts (λ f. valueIn s)))
-      (λ e. rw (answer-is k s fixed t f ws n o, e, is-body k s fixed t f, are-slots k s fixed t f) (ap (left A.Done) (sym (ins-put t _ ws (is-narrow k s fixed t f) e))))
+      (λ e. rw (answer-is k s fixed t f ws n o, e, is-body k s fixed t f, are-slots k s fixed t f) (ap (outcome A.Done) (sym (ins-put t _ ws (is-narrow k s fixed t f) e))))
       (λ e. rw (answer-is k s fixed t f ws n o, e))
 
   set-fixed : (x : Target) → targetOf (layout k .status) (walkOf ws 0) ≡ x → setOn s ws ≡ settled x (λ n. fitted (fits t (parts (λ f. valueIn s))) (putIns t (parts (λ f. valueIn s)) ws) ws) ws

@@ -13,21 +13,21 @@ use Rattle.buffer.specs.Filling.{putIn}
 use Rattle.numbers.specs.BySlot.{fitFrom, putFrom}
 use Rattle.records.specs.declared.answers.Answer.the-variants as A
 use Rattle.standard.specs.Walk.{walkOf}
-use Rattle.standard.specs.Words.{Left, left, unchanged}
+use Rattle.standard.specs.Words.{Outcome, outcome, unchanged}
 use Rattle.settings.specs.declared.fixed.Home.{Home}
 use Rattle.settings.specs.Target.{targetOf, settled}
 
 -- refusal 12 where a number does not fit, else these words
-abbrev pub fitted : Bool → List ℕ → List ℕ → Left
-fitted fits new ws = pick fits (left A.Done new) (unchanged NumberTooLarge ws)
+abbrev pub fitted : Bool → List ℕ → List ℕ → Outcome
+fitted fits new ws = pick fits (outcome A.Done new) (unchanged NumberTooLarge ws)
 
 -- one number in some bits of a word, of a message with this status
-unfoldable pub placeOn : ℕ → ℕ → ℕ → ℕ → ℕ → List ℕ → Left
+unfoldable pub placeOn : ℕ → ℕ → ℕ → ℕ → ℕ → List ℕ → Outcome
 placeOn status word at span v ws =
     settled (targetOf status (walkOf ws 0)) (λ n. fitted (ltb v (2 ^ span)) (putIn word at span v ws) ws) ws
 
 -- one number in slot i of a kind
-unfoldable pub slotOn : Kind → ℕ → ℕ → List ℕ → Left
+unfoldable pub slotOn : Kind → ℕ → ℕ → List ℕ → Outcome
 slotOn k i v ws =
     placeOn (layout k .status) (slotAt (layout k .fields) i .word) (slotAt (layout k .fields) i .at) (slotAt (layout k .fields) i .span) v ws
 
@@ -39,6 +39,6 @@ pub record HomeIs (k : Kind) (i : ℕ) (r : Home) : Type 0 where
   pub width : r .3 ≡ slotAt (layout k .fields) i .span
 
 -- numbers in the slots of a kind, from slot i on
-unfoldable pub slotsOn : Kind → ℕ → List ℕ → List ℕ → Left
+unfoldable pub slotsOn : Kind → ℕ → List ℕ → List ℕ → Outcome
 slotsOn k i xs ws =
     settled (targetOf (layout k .status) (walkOf ws 0)) (λ n. fitted (fitFrom (layout k .fields) i xs) (putFrom (layout k .fields) i xs ws) ws) ws

@@ -9,7 +9,7 @@ use Rattle.records.specs.declared.message.Message.{Message}
 use Rattle.records.specs.declared.answers.Walked.{Walked}
 use Rattle.records.specs.declared.answers.Walked.the-variants as W
 use Rattle.records.specs.Records.{kindIn, packetsIn}
-use Rattle.standard.specs.Words.{Left, unchanged}
+use Rattle.standard.specs.Words.{Outcome, unchanged}
 use Rattle.settings.specs.declared.target.Target.{Target}
 use Rattle.settings.specs.declared.target.Target.the-variants as T
 
@@ -26,6 +26,6 @@ targetOf status (W.Refused r next) = T.Refused r
 targetOf status (W.Message m next) = ownIn status m
 
 -- what a setting leaves: nothing changed where there is no target, else by the target's packets
-abbrev pub settled : Target → (ℕ → Left) → List ℕ → Left
+abbrev pub settled : Target → (ℕ → Outcome) → List ℕ → Outcome
 settled (T.Packets n) act ws = act (n .0)
 settled (T.Refused r) act ws = unchanged r ws

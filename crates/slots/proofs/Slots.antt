@@ -1,4 +1,4 @@
--- Laws of a table of slots, over (word, lowest bit, width). By induction on the table, over the laws of one field.
+-- Laws of reading and writing the slots of a table. By induction on the table, from the laws of one field.
 use Prim.Native.Nat.{ℕ, _+_, _^_, _<_, _≤_}
 use mathlib.Core.Path.{_≡_, refl, sym, ap, _∙_, subst}
 use mathlib.Core.Bool.{Bool, true, false}
@@ -15,9 +15,9 @@ use Rattle.laws.specs.Pick.{pick, both}
 use Rattle.laws.specs.Bits.{fieldOf, putField}
 use Rattle.laws.proofs.Pick.{either, below, both-left, both-right, both-true}
 use Rattle.laws.proofs.Bits.{get-put, get-other, put-over, put-swap, Apart, apart-sym}
-use Rattle.slots.specs.Slots.{Slot, get, put, putAll, those, fits, apart, clear, sound, low, reads}
+use Rattle.slots.specs.Slots.{Slot, get, put, putAll, those, fits, apart, apartFromAll, disjoint, wordsBelow, reads}
 
--- ---- one slot, over plain numbers
+-- ---- one slot, given by plain numbers
 putAt : ℕ → ℕ → ℕ → ℕ → List ℕ → List ℕ
 putAt i at span v ws = set ws i (putField (getD ws i 0) at span v)
 
@@ -47,7 +47,7 @@ kept-same ws i at span v at′ span′ h d =
     ⊎-elim (λ (l : i < length ws). ap (λ (x : ℕ). fieldOf x at′ span′) (getD-set-same ws i _ 0 l) ∙ get-other (getD ws i 0) at span v at′ span′ h d)
     (λ (l : length ws ≤ i). ap (λ (y : List ℕ). fieldOf (getD y i 0) at′ span′) (set-out ws i _ l)) (below i (length ws))
 
--- two slots apart: in other words, or in other bits of one
+-- two slots that share no bit: in different words, or in different bits of one word
 apart-cases : {K L : Type 0} (s : Slot K) (t : Slot L) → apart s t ≡ true → (s .word ≢ t .word) ⊎ ((s .word ≡ t .word) × Apart (s .at) (s .span) (t .at) (t .span))
 unfolding apart
 apart-cases s t e = go (eqb (s .word) (t .word)) refl e
@@ -98,46 +98,46 @@ unfolding putAll
 length-putAll [] v ws = refl
 length-putAll (s ∷ ss) v ws = length-put s _ _ ∙ length-putAll ss v ws
 
--- a slot apart from a table: a put of it goes through, and what it holds is kept
-pub put-clear : {K L : Type 0} (s : Slot L) (u : ℕ) (ss : List (Slot K)) (v : K → ℕ) (ws : List ℕ) → clear s ss ≡ true → u < 2 ^ s .span → fits ss v ≡ true → putAll ss v (put s u ws) ≡ put s u (putAll ss v ws)
-unfolding putAll clear fits
-put-clear s u [] v ws c h f = refl
-put-clear s u (t ∷ ts) v ws c h f =
-    ap (put t (v (t .key))) (put-clear s u ts v ws (both-right _ _ c) h (both-right _ _ f)) ∙ put-apart s t u (v (t .key)) (putAll ts v ws) (both-left _ _ c) h (ltb-true _ _ (both-left _ _ f))
+-- a slot that shares no bit with a table: puts into both may be swapped, and the slot keeps its number
+pub put-apart-all : {K L : Type 0} (s : Slot L) (u : ℕ) (ss : List (Slot K)) (v : K → ℕ) (ws : List ℕ) → apartFromAll s ss ≡ true → u < 2 ^ s .span → fits ss v ≡ true → putAll ss v (put s u ws) ≡ put s u (putAll ss v ws)
+unfolding putAll apartFromAll fits
+put-apart-all s u [] v ws c h f = refl
+put-apart-all s u (t ∷ ts) v ws c h f =
+    ap (put t (v (t .key))) (put-apart-all s u ts v ws (both-right _ _ c) h (both-right _ _ f)) ∙ put-apart s t u (v (t .key)) (putAll ts v ws) (both-left _ _ c) h (ltb-true _ _ (both-left _ _ f))
 
-pub get-clear : {K L : Type 0} (s : Slot L) (ss : List (Slot K)) (v : K → ℕ) (ws : List ℕ) → clear s ss ≡ true → fits ss v ≡ true → get s (putAll ss v ws) ≡ get s ws
-unfolding putAll clear fits
-get-clear s [] v ws c f = refl
-get-clear s (t ∷ ts) v ws c f =
-    get-apart s t (v (t .key)) (putAll ts v ws) (both-left _ _ c) (ltb-true _ _ (both-left _ _ f)) ∙ get-clear s ts v ws (both-right _ _ c) (both-right _ _ f)
+pub get-apart-all : {K L : Type 0} (s : Slot L) (ss : List (Slot K)) (v : K → ℕ) (ws : List ℕ) → apartFromAll s ss ≡ true → fits ss v ≡ true → get s (putAll ss v ws) ≡ get s ws
+unfolding putAll apartFromAll fits
+get-apart-all s [] v ws c f = refl
+get-apart-all s (t ∷ ts) v ws c f =
+    get-apart s t (v (t .key)) (putAll ts v ws) (both-left _ _ c) (ltb-true _ _ (both-left _ _ f)) ∙ get-apart-all s ts v ws (both-right _ _ c) (both-right _ _ f)
 
-those-clear : {K L : Type 0} (t : K → Bool) (s : Slot L) (ss : List (Slot K)) → clear s ss ≡ true → clear s (those t ss) ≡ true
-unfolding clear those
-those-clear t s [] c = refl
-those-clear t s (x ∷ xs) c = go (t (x .key)) (those-clear t s xs (both-right _ _ c))
+those-apart-all : {K L : Type 0} (t : K → Bool) (s : Slot L) (ss : List (Slot K)) → apartFromAll s ss ≡ true → apartFromAll s (those t ss) ≡ true
+unfolding apartFromAll those
+those-apart-all t s [] c = refl
+those-apart-all t s (x ∷ xs) c = go (t (x .key)) (those-apart-all t s xs (both-right _ _ c))
   where
-    go : (b : Bool) → clear s (those t xs) ≡ true → clear s (pick b (x ∷ those t xs) (those t xs)) ≡ true
+    go : (b : Bool) → apartFromAll s (those t xs) ≡ true → apartFromAll s (pick b (x ∷ those t xs) (those t xs)) ≡ true
     go true r = both-true _ _ (both-left _ _ c) r
     go false r = r
 
--- THE LAW OF SETTINGS: the slots that pass a test, put over a whole table, are the table with those values
-pub put-those : {K : Type 0} (t : K → Bool) (g h : K → ℕ) (ss : List (Slot K)) (ws : List ℕ) → sound ss ≡ true → fits (those t ss) g ≡ true → fits ss h ≡ true → putAll (those t ss) g (putAll ss h ws) ≡ putAll ss (λ k. pick (t k) (g k) (h k)) ws
-unfolding putAll those fits sound
+-- THE LAW OF SETTINGS: putting some slots over a full table gives the table with these values changed
+pub put-those : {K : Type 0} (t : K → Bool) (g h : K → ℕ) (ss : List (Slot K)) (ws : List ℕ) → disjoint ss ≡ true → fits (those t ss) g ≡ true → fits ss h ≡ true → putAll (those t ss) g (putAll ss h ws) ≡ putAll ss (λ k. pick (t k) (g k) (h k)) ws
+unfolding putAll those fits disjoint
 put-those t g h [] ws so fg fh = refl
 put-those t g h (s ∷ ss) ws so fg fh = go (t (s .key)) fg (λ f. put-those t g h ss ws (both-right _ _ so) f (both-right _ _ fh))
   where
-    c : clear s (those t ss) ≡ true
-    c = those-clear t s ss (both-left _ _ so)
+    c : apartFromAll s (those t ss) ≡ true
+    c = those-apart-all t s ss (both-left _ _ so)
 
     small : h (s .key) < 2 ^ s .span
     small = ltb-true _ _ (both-left _ _ fh)
 
     go : (b : Bool) → fits (pick b (s ∷ those t ss) (those t ss)) g ≡ true → (fits (those t ss) g ≡ true → putAll (those t ss) g (putAll ss h ws) ≡ putAll ss (λ k. pick (t k) (g k) (h k)) ws) → putAll (pick b (s ∷ those t ss) (those t ss)) g (put s (h (s .key)) (putAll ss h ws)) ≡ put s (pick b (g (s .key)) (h (s .key))) (putAll ss (λ k. pick (t k) (g k) (h k)) ws)
     go true f ih =
-        ap (put s (g (s .key))) (put-clear s (h (s .key)) (those t ss) g (putAll ss h ws) c small (both-right _ _ f)) ∙ put-put s (h (s .key)) (g (s .key)) _ small ∙ ap (put s (g (s .key))) (ih (both-right _ _ f))
-    go false f ih = put-clear s (h (s .key)) (those t ss) g (putAll ss h ws) c small f ∙ ap (put s (h (s .key))) (ih f)
+        ap (put s (g (s .key))) (put-apart-all s (h (s .key)) (those t ss) g (putAll ss h ws) c small (both-right _ _ f)) ∙ put-put s (h (s .key)) (g (s .key)) _ small ∙ ap (put s (g (s .key))) (ih (both-right _ _ f))
+    go false f ih = put-apart-all s (h (s .key)) (those t ss) g (putAll ss h ws) c small f ∙ ap (put s (h (s .key))) (ih f)
 
--- values that fit, where some are changed for others that fit
+-- values that fit still fit after some are replaced by fitting ones
 pub fits-those : {K : Type 0} (t : K → Bool) (g h : K → ℕ) (ss : List (Slot K)) → fits (those t ss) g ≡ true → fits ss h ≡ true → fits ss (λ k. pick (t k) (g k) (h k)) ≡ true
 unfolding fits those
 fits-those t g h [] fg fh = refl
@@ -154,13 +154,13 @@ get-before s t u ws a h =
     ⊎-elim (λ (ne : s .word ≢ t .word). ap (λ (x : ℕ). fieldOf x (t .at) (t .span)) (getD-set-other ws (s .word) (t .word) _ 0 (λ e. ne (sym e))))
     (λ (b : (s .word ≡ t .word) × Apart (s .at) (s .span) (t .at) (t .span)). rw (← b .0) (kept-same ws (s .word) (s .at) (s .span) u (t .at) (t .span) h (b .1))) (apart-cases s t a)
 
-reads-put : {K : Type 0} (s : Slot K) (u : ℕ) (ss : List (Slot K)) (v : K → ℕ) (ws : List ℕ) → clear s ss ≡ true → u < 2 ^ s .span → reads ss v ws → reads ss v (put s u ws)
-unfolding reads clear
+reads-put : {K : Type 0} (s : Slot K) (u : ℕ) (ss : List (Slot K)) (v : K → ℕ) (ws : List ℕ) → apartFromAll s ss ≡ true → u < 2 ^ s .span → reads ss v ws → reads ss v (put s u ws)
+unfolding reads apartFromAll
 reads-put s u [] v ws c h r = tt
 reads-put s u (t ∷ ts) v ws c h r = (get-before s t u ws (both-left _ _ c) h ∙ r .0, reads-put s u ts v ws (both-right _ _ c) h (r .1))
 
-pub reads-all : {K : Type 0} (n : ℕ) (ss : List (Slot K)) (v : K → ℕ) (ws : List ℕ) → n ≤ length ws → low n ss ≡ true → sound ss ≡ true → fits ss v ≡ true → reads ss v (putAll ss v ws)
-unfolding reads putAll sound fits low
+pub reads-all : {K : Type 0} (n : ℕ) (ss : List (Slot K)) (v : K → ℕ) (ws : List ℕ) → n ≤ length ws → wordsBelow n ss ≡ true → disjoint ss ≡ true → fits ss v ≡ true → reads ss v (putAll ss v ws)
+unfolding reads putAll disjoint fits wordsBelow
 reads-all n [] v ws l lo so f = tt
 reads-all n (s ∷ ss) v ws l lo so f =
     let h : v (s .key) < 2 ^ s .span = ltb-true _ _ (both-left _ _ f) in

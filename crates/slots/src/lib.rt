@@ -1,1 +1,1 @@
-// Tables of fields by (word, lowest bit, width): what stands in a slot, putting some slots of a table, and when no two share a bit. No function.
+// Tables of fields, each given by word, lowest bit and width: reading, putting some of them, and when no two share a bit. It has no functions.

@@ -1,4 +1,4 @@
--- What an accepted setting tells. Closed by walking the chain of refusals once.
+-- What is known of an accepted setting. Proved by following the chain of refusals.
 use Prim.Native.Nat.{ℕ, _≤_}
 use mathlib.Core.Path.{_≡_}
 use mathlib.Core.Bool.{true}
@@ -26,9 +26,9 @@ pub record Accepted (b : Body) (t : List (Slot Part)) (room : ℕ) (s : Setting)
   pub most : needed (capacityIn b) (length (textIn s)) ≤ 64
   pub inside : needed (capacityIn b) (length (textIn s)) ≤ room
 
-pub accepted : (r : Row) (room : ℕ) (s : Setting) → answerTo r room s ≡ A.Done → Accepted (r .body) (r .fields) room s
+pub accepted-facts : (r : Row) (room : ℕ) (s : Setting) → answerTo r room s ≡ A.Done → Accepted (r .body) (r .fields) room s
 unfolding answerTo
-accepted r room s e =
+accepted-facts r room s e =
     let a = passed (missing r s) _ _ A.Done refused-done e in
     let b = passed (tooLarge (r .fields) s) _ _ A.Done refused-done (a .1) in
     let c = passed (isBad (firstBad (textIn s))) _ _ A.Done refused-done (b .1) in

@@ -1,4 +1,4 @@
--- The words' slots and the record's values give each other. Closed by computing the table at each kind, and the laws of the codes.
+-- From the words' slots to the record's values and back. Proved by computing the table for each kind, and the laws of the codes.
 use Prim.Native.Nat.{ℕ}
 use mathlib.Core.Path.{_≡_, refl, sym, ap, _∙_, subst}
 use mathlib.Core.Bool.{true, false}
@@ -25,7 +25,7 @@ use Rattle.records.proofs.Records.{record-back, port-named, direction-named}
 use Rattle.standard.specs.Heads.{packetFrom}
 use Rattle.standard.specs.Reading.{otherField, codeAt, valuesAt}
 
--- words hold the values that they are read as
+-- words hold the values that are read from them
 pub values-hold : (k : Kind) (ws : List ℕ) → reads (layout k .fields) (parts (valuesAt k ws)) ws
 unfolding reads layout valuesIn those map held joined same decided partOf
 values-hold K.EndpointDiscovery ws = (refl, (refl, (refl, (refl, (refl, (refl, (refl, tt)))))))
@@ -36,7 +36,7 @@ values-hold K.ProductInstanceId ws = tt
 values-hold K.FunctionBlockInfo ws = (refl, (refl, (refl, (refl, (refl, (refl, (refl, (refl, (refl, tt)))))))))
 values-hold K.FunctionBlockName ws = (refl, tt)
 
--- the record of words whose choices are named ones is held by them
+-- words without a bad port or direction hold the values of the record read from them
 pub record-holds : (k : Kind) (n : ℕ) (ws : List ℕ) → codeAt k ws Field.midi1-port ≢ noPort → codeAt k ws Field.direction ≢ noDirection → reads (layout k .fields) (parts (valuesOf (recordOf k n (valuesAt k ws)))) ws
 unfolding reads layout recordOf valuesIn those map held joined same decided partOf fieldsIn lookup
 record-holds K.EndpointDiscovery n ws p d = (refl, (refl, (flag-bit _ (get-small _ ws), (flag-bit _ (get-small _ ws), (flag-bit _ (get-small _ ws), (flag-bit _ (get-small _ ws), (flag-bit _ (get-small _ ws), tt)))))))
@@ -48,7 +48,7 @@ record-holds K.FunctionBlockInfo n ws p d = (flag-bit _ (get-small _ ws), (refl,
 record-holds K.FunctionBlockName n ws p d = (refl, tt)
 
 module _ (v : Field → List ℕ) (ws : List ℕ) where
-  -- words that hold values are read as their record
+  -- words that hold some values are read as the record of these values
   values-record : (k : Kind) (n : ℕ) → reads (layout k .fields) (parts v) ws → recordOf k n (valuesAt k ws) ≡ recordOf k n v
   unfolding reads layout recordOf valuesIn those map held joined same decided partOf
   values-record K.EndpointDiscovery n h = simp (h .0, h .1 .0, h .1 .1 .0, h .1 .1 .1 .0, h .1 .1 .1 .1 .0, h .1 .1 .1 .1 .1 .0, h .1 .1 .1 .1 .1 .1 .0)
@@ -59,7 +59,7 @@ module _ (v : Field → List ℕ) (ws : List ℕ) where
   values-record K.FunctionBlockInfo n h = simp (h .0, h .1 .0, h .1 .1 .0, h .1 .1 .1 .0, h .1 .1 .1 .1 .0, h .1 .1 .1 .1 .1 .0, h .1 .1 .1 .1 .1 .1 .0, h .1 .1 .1 .1 .1 .1 .1 .0, h .1 .1 .1 .1 .1 .1 .1 .1 .0)
   values-record K.FunctionBlockName n h = simp (h .0)
 
-  -- and a choice as the value's; its start, which is a named one, where the kind has none
+  -- such words have a valid port and direction; so does a kind that has none
   named-port : (k : Kind) → reads (layout k .fields) (parts v) ws → getD (v Field.midi1-port) 0 0 ≢ noPort → codeAt k ws Field.midi1-port ≢ noPort
   unfolding reads layout valuesIn those map held joined same decided partOf start
   named-port K.EndpointDiscovery h p = λ e. omega arith
@@ -80,7 +80,7 @@ module _ (v : Field → List ℕ) (ws : List ℕ) where
   named-direction K.FunctionBlockInfo h d = λ e. d (sym (h .1 .1 .1 .1 .0) ∙ e)
   named-direction K.FunctionBlockName h d = λ e. omega arith
 
-  -- THE RECORD of values is held where the values are, its choices named ones
+  -- THE RECORD of some values: words that hold the values hold the record's values too
   pub values-held : (k : Kind) (n : ℕ) → reads (layout k .fields) (parts v) ws → getD (v Field.midi1-port) 0 0 ≢ noPort → getD (v Field.direction) 0 0 ≢ noDirection → reads (layout k .fields) (parts (valuesOf (recordOf k n v))) ws
   values-held k n h p d =
       subst (λ (m : Message). reads (layout k .fields) (parts (valuesOf m)) ws) (values-record k n h) (record-holds k n ws (named-port k h p) (named-direction k h d))
@@ -91,7 +91,7 @@ module _ (m : Message) (ws : List ℕ) (h : reads (layout (kindIn m) .fields) (p
   pub holds-record : (n : ℕ) → n ≡ packetsIn m → recordOf (kindIn m) n (valuesAt (kindIn m) ws) ≡ m
   holds-record n q = values-record (valuesOf m) ws (kindIn m) n h ∙ ap (λ (i : ℕ). recordOf (kindIn m) i (valuesOf m)) q ∙ record-back m
 
-  -- and their choices are named ones
+  -- and have a valid port and direction
   pub holds-port : eqb (codeAt (kindIn m) ws Field.midi1-port) noPort ≡ false
   holds-port = ne-eqb _ _ (named-port (valuesOf m) ws (kindIn m) h (port-named m))
 
@@ -99,14 +99,14 @@ module _ (m : Message) (ws : List ℕ) (h : reads (layout (kindIn m) .fields) (p
   holds-direction = ne-eqb _ _ (named-direction (valuesOf m) ws (kindIn m) h (direction-named m))
 
 -- ---- one table over two packets
--- packets that hold the same break no rule
+-- packets that hold the same values break no rule
 pub same-fields : (t : List (Slot Part)) (v : Part → ℕ) (ws : List ℕ) (p : ℕ) → reads t v (packetFrom ws 0) → reads t v (packetFrom ws p) → otherField t ws p ≡ false
 unfolding reads otherField
 same-fields [] v ws p a b = refl
 same-fields (s ∷ ss) v ws p a b =
     rw (eq-differ (get s (packetFrom ws p)) (get s (packetFrom ws 0)) (b .0 ∙ sym (a .0))) (same-fields ss v ws p (a .1) (b .1))
 
--- and what one holds the other does, where no rule is broken
+-- if no rule is broken, packet p holds what packet 0 holds
 pub fields-same : (t : List (Slot Part)) (v : Part → ℕ) (ws : List ℕ) (p : ℕ) → otherField t ws p ≡ false → reads t v (packetFrom ws 0) → reads t v (packetFrom ws p)
 unfolding reads otherField
 fields-same [] v ws p e a = tt

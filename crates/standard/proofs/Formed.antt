@@ -1,4 +1,4 @@
--- Reading accepts exactly the well-formed messages, with exactly their fields and text. Closed by walking each chain of refusals once, both ways.
+-- Reading accepts exactly the well-formed messages, with exactly their fields and text. Proved by following each chain of refusals, in both directions.
 use Prim.Native.Nat.{ℕ, _%_, _≤_, _<_}
 use mathlib.Core.Path.{_≡_, refl, sym, ap, _∙_, subst}
 use mathlib.Core.Bool.{false}
@@ -12,7 +12,7 @@ use Rattle.laws.proofs.Pick.{past, passed, eq-differ, differ-false}
 use Rattle.slots.specs.Slots.{reads}
 use Rattle.utf8.specs.Utf8.{firstBad}
 use Rattle.utf8.proofs.Valid.{good-valid, valid-good}
-use Rattle.text.specs.Octets.{due}
+use Rattle.text.specs.Octets.{dueFormat}
 use Rattle.text.specs.Bytes.{textOf}
 use Rattle.kinds.specs.declared.refusal.Refusal.the-variants.{TooFewWords, NotWholePackets, TooManyPackets}
 use Rattle.kinds.specs.declared.kind.Kind.{Kind}
@@ -32,7 +32,7 @@ use Rattle.standard.specs.Formed.{Formed}
 use Rattle.standard.proofs.Fields.{holds-record, holds-port, holds-direction, record-holds, same-fields, fields-same}
 use Rattle.standard.proofs.Rules.{Keeps, ruled-message, ruled-kept, not-bad}
 
--- ---- a well-formed message is read, and as what it is
+-- ---- a well-formed message is read as what it is
 module _ (m : Message) (t ws : List ℕ) (f : Formed m t ws) where
   count : packetsOf ws ≡ packetsIn m
   count = let w = f .words in omega arith
@@ -61,7 +61,7 @@ module _ (m : Message) (t ws : List ℕ) (f : Formed m t ws) where
   formed-kind =
       ruled-kept _ _ _ _ (λ p h. eq-differ _ _ (f .status p (inside p h) ∙ sym first-status))
       (past _ (le-ltb (mostOf (kindIn m)) (packetsOf ws) (rw count (f .most)))
-      (ruled-kept _ _ _ _ (λ p h. eq-differ _ _ (f .format p (inside p h) ∙ ap (λ (n : ℕ). due n p) (sym count)))
+      (ruled-kept _ _ _ _ (λ p h. eq-differ _ _ (f .format p (inside p h) ∙ ap (λ (n : ℕ). dueFormat n p) (sym count)))
       (ruled-kept _ _ _ _ (λ p h. same-fields _ _ ws p first-fields (f .fields p (inside p h))) formed-body)))
 
   pub formed-read : readOf ws ≡ R.Message m
@@ -76,8 +76,8 @@ module _ (m : Message) (t ws : List ℕ) (f : Formed m t ws) where
       (past _ (le-ltb 64 (packetsOf ws) (omega (arith, count, f .most, most-64 (layout (kindIn m) .body))))
       (ruled-kept _ _ _ _ (λ p h. eq-differ _ _ (f .type p (inside p h))) (formed-kind ∙ ap (λ (k : Known). readKnown k ws) known)))))
 
--- ---- and nothing else is
--- what reading saw of the packets of a message of a kind
+-- ---- and nothing else is read
+-- what is known of the packets once reading has accepted them as kind k
 record Seen (k : Kind) (m : Message) (ws : List ℕ) : Type 0 where
   most : packetsOf ws ≤ mostOf k
   status : Keeps (otherStatus ws) (packetsOf ws)
@@ -103,7 +103,7 @@ kind-seen k m ws e =
     let u = passed _ _ _ (R.Message m) refused-message (q .1) in
     record { most = ltb-false _ _ (b .0); status = a .0; format = c .0; field = d .0; port = p .0; direction = q .0; good = u .0; is = message-is (u .1) }
 
--- the kind that reading saw has the first packet's status
+-- the accepted kind has the status of the first packet
 record Known-seen (m : Message) (ws : List ℕ) : Type 0 where
   kind : Kind
   status : statusOf (headAt ws 0) ≡ layout kind .status
@@ -136,7 +136,7 @@ read-formed ws m e =
       most = rw (← kind, ← n) (x .most);
       words = omega arith;
       type = λ p h. differ-false _ _ (d .0 p (below p h));
-      format = λ p h. differ-false _ _ (x .format p (below p h)) ∙ ap (λ (i : ℕ). due i p) n;
+      format = λ p h. differ-false _ _ (x .format p (below p h)) ∙ ap (λ (i : ℕ). dueFormat i p) n;
       status = λ p h. differ-false _ _ (x .status p (below p h)) ∙ s .status ∙ ap (λ (i : Kind). layout i .status) kind;
       fields = λ p h. rw (← kind) (fields-same (layout k .fields) _ ws p (x .field p (below p h)) fields);
       text = rw (← n);

@@ -1,4 +1,4 @@
--- A message is well formed by its own words alone: what comes after them is not looked at. Closed by the laws of `take`.
+-- Whether a message is well formed depends on its own words only, not on those after it. From the laws of `take`.
 use Prim.Native.Nat.{ℕ, zero, suc, _+_, _-_, _*_, _/_, _%_, _≤_, _<_}
 use mathlib.Core.Path.{_≡_, sym, ap, _∙_}
 use mathlib.Core.Bool.{true}
@@ -9,9 +9,9 @@ use lib.ListN.{length, getD, take}
 use lib.Seq.{getD-take, getD-drop, length-take-le}
 use Rattle.laws.specs.Lists.{tabulate, nonzero}
 use Rattle.laws.proofs.Lists.{length-tabulate, getD-tabulate, tabulate-ext}
-use Rattle.slots.specs.Slots.{low, reads}
+use Rattle.slots.specs.Slots.{wordsBelow, reads}
 use Rattle.utf8.specs.Utf8.{Valid}
-use Rattle.text.specs.Octets.{octetOf, due}
+use Rattle.text.specs.Octets.{octetOf, dueFormat}
 use Rattle.text.specs.Bytes.{textByte, allBytes, textOf}
 use Rattle.kinds.specs.Layout.{layout, capacityOf, mostOf, parts}
 use Rattle.records.specs.declared.message.Message.{Message}
@@ -27,7 +27,7 @@ module _ (ws : List ℕ) (n : ℕ) (room : n * 4 ≤ length ws) where
   front-word : (p : ℕ) → p < n → (i : ℕ) → i < 4 → getD (packetFrom ws p) i 0 ≡ getD (packetFrom (take (n * 4) ws) p) i 0
   front-word p h i l = getD-drop (p * 4) ws i 0 ∙ sym (getD-drop (p * 4) (take (n * 4) ws) i 0 ∙ getD-take (n * 4) ws (p * 4 + i) 0 (omega arith))
 
-  -- the text of n packets stands in their words
+  -- the text of n packets depends on their words only
   module _ (cap : ℕ) (small : cap ≤ 16) where
     front-byte : (p b : ℕ) → p < n → b < cap → textByte (take (n * 4) ws) cap p b ≡ textByte ws cap p b
     unfolding textByte
@@ -47,19 +47,19 @@ module _ (ws : List ℕ) (n : ℕ) (room : n * 4 ≤ length ws) where
   front-text zero h = ap nonzero (no-bytes (take (n * 4) ws) ∙ sym (no-bytes ws))
   front-text (suc cap) h = ap nonzero (front-bytes (suc cap) h (omega arith))
 
--- what is well formed in a slice's first words is a message there
+-- a slice that starts with the message m: well formed as far as the message goes
 pub record Starts (m : Message) (t ws : List ℕ) : Type 0 where
   pub some : 1 ≤ packetsIn m
   pub most : packetsIn m ≤ mostOf (kindIn m)
   pub room : packetsIn m * 4 ≤ length ws
   pub type : (p : ℕ) → p < packetsIn m → typeOf (headAt ws p) ≡ streamType
-  pub format : (p : ℕ) → p < packetsIn m → formatOf (headAt ws p) ≡ due (packetsIn m) p
+  pub format : (p : ℕ) → p < packetsIn m → formatOf (headAt ws p) ≡ dueFormat (packetsIn m) p
   pub status : (p : ℕ) → p < packetsIn m → statusOf (headAt ws p) ≡ layout (kindIn m) .status
   pub fields : (p : ℕ) → p < packetsIn m → reads (layout (kindIn m) .fields) (parts (valuesOf m)) (packetFrom ws p)
   pub text : textOf ws (capacityOf (kindIn m)) (packetsIn m) ≡ t
   pub valid : Valid t
 
-pub starts-formed : (m : Message) (t ws : List ℕ) → low 4 (layout (kindIn m) .fields) ≡ true → capacityOf (kindIn m) ≤ 16 → Starts m t ws → Formed m t (take (packetsIn m * 4) ws)
+pub starts-formed : (m : Message) (t ws : List ℕ) → wordsBelow 4 (layout (kindIn m) .fields) ≡ true → capacityOf (kindIn m) ≤ 16 → Starts m t ws → Formed m t (take (packetsIn m * 4) ws)
 starts-formed m t ws lo small s =
     let n = packetsIn m in
     record {

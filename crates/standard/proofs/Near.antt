@@ -1,4 +1,4 @@
--- The place of any refusal of the walk is at most 64. Closed by following the picks of reading and framing.
+-- The place of any refusal of the walk is at most 64. Proved by following the cases of reading and framing.
 use Prim.Native.Nat.{ℕ, zero, suc, _+_, _-_, _%_, _≤_}
 use mathlib.Core.Path.{_≡_, refl}
 use mathlib.Core.Bool.{Bool, false}
@@ -38,7 +38,7 @@ abbrev pub Near : Read → Type 0
 Near (R.Message m) = Unit
 Near (R.Refused r) = refusalPlace r ≤ 64
 
--- a test that refuses without a place, and a rule that refuses at a packet
+-- a test whose refusal has no place, and a rule whose refusal names a packet
 tested : (t : Bool) (r : Refusal) (rest : Read) → refusalPlace r ≤ 64 → (t ≡ false → Near rest) → Near (pick t (R.Refused r) rest)
 tested t r rest h g = picked Near t (R.Refused r) rest (λ e. h) g
 

@@ -1,4 +1,4 @@
--- The next position is larger than the one given, and at most the length. Closed by induction on the packets that may still come.
+-- The next position is larger than the given one, and at most the length. By induction on the packets that may still come.
 use Prim.Native.Nat.{ℕ, zero, suc, _+_, _-_, _*_, _≤_, _<_}
 use mathlib.Core.Path.{_≡_, refl, sym}
 use mathlib.Core.List.{List}
@@ -21,7 +21,7 @@ use Rattle.standard.specs.Reading.{readOf}
 use Rattle.standard.specs.Walk.{sizeOf, stepOf, afterStep, framePacket, frameFrom, frameOf, walkedOf, part, framedOf, otherOf, walkOf, Onward}
 
 -- ---- framing
--- the packets of a framed message lie within the words; a broken one has its first packet whole
+-- the packets of a framed message lie within the words; a broken message has at least one whole packet
 abbrev pub Room : List ℕ → ℕ → Framed → Type 0
 Room ws pos (Whole n) = (1 ≤ n .0) × (n .0 ≤ 64) × (pos + n .0 * 4 ≤ length ws)
 Room ws pos Short = Unit
@@ -55,7 +55,7 @@ pub whole-room : {f : Framed} (ws : List ℕ) (pos : ℕ) {n : PacketNumber} →
 whole-room ws pos e q = rw (← e, q) at (frame-room ws pos)
 
 -- ---- the walk
--- every type has a word
+-- every type has at least one word
 pub size-some : (t : ℕ) → 1 ≤ sizeOf t
 unfolding sizeOf
 size-some t =
@@ -79,14 +79,14 @@ other-onward t ws pos h =
     let l : sizeOf t ≤ length ws - pos = ltb-false _ _ q in
     (omega (arith, size-some t), omega arith))
 
--- before the length an answer carries a next position, larger than the one given and at most the length
+-- before the end, an answer has a next position, larger than the given one and at most the length
 pub walk-onward : (ws : List ℕ) (pos : ℕ) → pos < length ws → Onward pos (length ws) (walkOf ws pos)
 unfolding walkOf
 walk-onward ws pos h =
     picked (Onward pos (length ws)) (leb (length ws) pos) _ _ (λ q. let l : length ws ≤ pos = leb-true _ _ q in omega arith) (λ q.
     picked (Onward pos (length ws)) (differ (typeOf (getD ws pos 0)) streamType) _ _ (λ u. other-onward _ ws pos h) (λ u. framed-onward (frameOf ws pos) ws pos h (frame-room ws pos)))
 
--- at or past the length it is the end
+-- at or past the length, the answer is the end
 pub walk-end : (ws : List ℕ) (pos : ℕ) → length ws ≤ pos → walkOf ws pos ≡ W.End
 unfolding walkOf
 walk-end ws pos h = sym (here _ (le-leb _ _ h) refl)

@@ -1,4 +1,4 @@
--- Rules over all packets, and text that is not bad. Closed by the laws of the first number that passes a test.
+-- Rules over all packets, and text that is not bad. From the laws of the first number that passes a test.
 use Prim.Native.Nat.{ℕ, _≤_, _<_}
 use mathlib.Core.Path.{_≡_, refl}
 use mathlib.Core.Bool.{Bool, false}
@@ -18,7 +18,7 @@ use Rattle.records.specs.declared.answers.Read.the-variants as R
 use Rattle.records.proofs.Records.{refused-message}
 use Rattle.standard.specs.Reading.{ruled, isBad}
 
--- no packet of n breaks the rule
+-- none of n packets breaks the rule
 abbrev pub Keeps : (ℕ → Bool) → ℕ → Type 0
 Keeps broken n = (p : ℕ) → p < n → broken p ≡ false
 
@@ -33,7 +33,7 @@ module _ (broken : ℕ → Bool) (n : ℕ) (why : PacketNumber → Refusal) (res
   unfolding ruled
   ruled-kept h e = past _ (first-none broken n h) e
 
-  -- how a search's answer reaches the two cases
+  -- the result of a search, in its two cases
   pub ruled-here : (p : PacketNumber) → p .0 ≡ first broken n → p .0 < n → R.Refused (why p) ≡ ruled broken n why rest
   unfolding ruled
   ruled-here p e h = rw (← e) (here _ (lt-ltb _ _ h) refl)

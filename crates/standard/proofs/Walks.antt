@@ -1,4 +1,4 @@
--- A well-formed message at a position is answered by the walk, with the word after it. Closed by framing packet by packet, and formed-read.
+-- The walk answers a well-formed message at a position, with the position after it. Proved by framing packet by packet, and `formed-read`.
 use Prim.Native.Nat.{ℕ, zero, suc, _+_, _-_, _*_, _≤_, _<_}
 use mathlib.Core.Path.{_≡_, refl, sym, _∙_}
 use mathlib.Core.Bool.{true, false}
@@ -11,7 +11,7 @@ use lib.Dec.{ltb, leb, eqb}
 use borrow.Author.Tests.{lt-ltb, le-ltb, lt-leb, ne-eqb}
 use Rattle.laws.proofs.Pick.{past, eq-differ}
 use Rattle.counts.specs.Counts.{packet, word}
-use Rattle.text.specs.Octets.{due}
+use Rattle.text.specs.Octets.{dueFormat}
 use Rattle.kinds.specs.Layout.{layout}
 use Rattle.kinds.proofs.Rows.{most-64}
 use Rattle.records.specs.declared.message.Message.{Message}
@@ -29,13 +29,13 @@ use Rattle.standard.proofs.Formed.{formed-read}
 pub part-length : (ws : List ℕ) (pos n : ℕ) → pos + n * 4 ≤ length ws → length (part ws pos n) ≡ n * 4
 part-length ws pos n h = simp (length-take, length-drop) (omega arith)
 
--- ---- a packet's first word in the part and in the stream
+-- ---- a packet's first word, in the part and in the stream
 part-head : (ws : List ℕ) (pos n p : ℕ) → p < n → headAt (part ws pos n) p ≡ getD ws (pos + p * 4) 0
 part-head ws pos n p h = let l : p * 4 < pos + n * 4 - pos = omega arith in rw (getD-take, getD-drop)
 
--- ---- the format due is the one that the chain rule takes
-due-ends : (n p : ℕ) → p + 1 ≡ n → Ends ≡ stepOf p (due n p)
-unfolding due stepOf
+-- ---- the chain rule accepts the due format of each packet
+due-ends : (n p : ℕ) → p + 1 ≡ n → Ends ≡ stepOf p (dueFormat n p)
+unfolding dueFormat stepOf
 due-ends n zero e = let q : n ≡ 1 = omega arith in rw q
 due-ends n (suc p) e =
     let a : leb n 1 ≡ false = lt-leb n 1 (omega arith) in
@@ -43,8 +43,8 @@ due-ends n (suc p) e =
     let z : eqb (suc p) 0 ≡ false = ne-eqb (suc p) 0 (λ q. omega arith) in
     rw (a, z, b)
 
-due-goes : (n p : ℕ) → p + 1 < n → Goes ≡ stepOf p (due n p)
-unfolding due stepOf
+due-goes : (n p : ℕ) → p + 1 < n → Goes ≡ stepOf p (dueFormat n p)
+unfolding dueFormat stepOf
 due-goes n zero e = let a : leb n 1 ≡ false = lt-leb n 1 (omega arith) in rw a
 due-goes n (suc p) e =
     let a : leb n 1 ≡ false = lt-leb n 1 (omega arith) in
@@ -52,7 +52,7 @@ due-goes n (suc p) e =
     let z : eqb (suc p) 0 ≡ false = ne-eqb (suc p) 0 (λ q. omega arith) in
     rw (a, z, b)
 
--- ---- framing takes the packets of a message, and no more
+-- ---- framing takes exactly the packets of a message
 module _ (m : Message) (t ws : List ℕ) (pos : ℕ) (room : pos + packetsIn m * 4 ≤ length ws) (f : Formed m t (part ws pos (packetsIn m))) where
   most : packetsIn m ≤ 64
   most = omega (arith, f .most, most-64 (layout (kindIn m) .body))
@@ -60,7 +60,7 @@ module _ (m : Message) (t ws : List ℕ) (pos : ℕ) (room : pos + packetsIn m *
   first : getD ws pos 0 ≡ headAt (part ws pos (packetsIn m)) 0
   first = let z : pos + 0 * 4 ≡ pos = omega arith in sym (rw z at (part-head ws pos (packetsIn m) 0 (f .some)))
 
-  open-packet : (p at : ℕ) (rest : Framed) → p < packetsIn m → at ≡ pos + p * 4 → afterStep (stepOf p (due (packetsIn m) p)) p rest ≡ framePacket ws (layout (kindIn m) .status) p at rest
+  open-packet : (p at : ℕ) (rest : Framed) → p < packetsIn m → at ≡ pos + p * 4 → afterStep (stepOf p (dueFormat (packetsIn m) p)) p rest ≡ framePacket ws (layout (kindIn m) .status) p at rest
   unfolding framePacket
   open-packet p at rest l e =
       let q : getD ws at 0 ≡ headAt (part ws pos (packetsIn m)) p = rw e (sym (part-head ws pos (packetsIn m) p l)) in
@@ -85,7 +85,7 @@ module _ (m : Message) (t ws : List ℕ) (pos : ℕ) (room : pos + packetsIn m *
   unfolding frameOf
   formed-frames = rw (first, f .status 0 (f .some)) (sym (frames 64 0 pos refl (f .some) (omega arith)))
 
-  -- A WELL-FORMED MESSAGE AT A POSITION IS ANSWERED, with the word after it
+  -- A WELL-FORMED MESSAGE AT A POSITION IS ANSWERED, with the position after it
   pub formed-walk : walkOf ws pos ≡ W.Message m (word (pos + packetsIn m * 4))
   unfolding walkOf framedOf
   formed-walk =

@@ -12,27 +12,29 @@ use Rattle.standard.specs.Reading.{readOf, textAt}
 use Rattle.standard.specs.Words.{fresh}
 use Rattle.standard.specs.Lists.{setAll}
 
--- the first words of n packets, and zeros after them
+-- the given words, with zeros up to n packets
 abbrev packets : ℕ → List ℕ → List ℕ
 packets n ws = ws ++ replicate (n * 4 - length ws) 0
 
--- n letters a, and three words of four each
+-- n letters `a`
 abbrev letters : ℕ → List ℕ
 letters n = replicate n 0x61
 
+-- three words full of them
 abbrev full : List ℕ
 full = 0x61616161 ∷ 0x61616161 ∷ 0x61616161 ∷ []
 
--- what the settings leave of a fresh message in n packets that held other words
+-- a fresh message in n packets that held other words before, after the settings
 abbrev made : Kind → ℕ → List Setting → List ℕ
 made k n ss = setAll ss (fresh k (replicate (n * 4) 0x12345678))
 
--- the settings leave the words, and reading them gives the numbers and the text
+-- the settings give these words, and reading them gives the numbers and the text
 pub record Is (k : Kind) (n : ℕ) (ss : List Setting) (ws numbers text : List ℕ) : Type 0 where
   pub writes : made k n ss ≡ ws
   pub reads : saidRead (readOf ws) ≡ accepted numbers
   pub says : textAt k ws ≡ text
 
+-- set an endpoint name; set a block number and a block name
 abbrev named : List ℕ → List Setting
 named t = Setting.text Text.endpoint-name t ∷ []
 
@@ -43,22 +45,22 @@ abbrev refusal : ℕ → ℕ → Said
 refusal n p = record { refusal = n; place = p; values = [] }
 
 pub record Twelve : Type 0 where
-  -- endpoint name, empty; `A`; fourteen and fifteen `a`
+  -- endpoint name: empty, `A`, fourteen and fifteen `a`
   pub case1 : Is K.EndpointName 1 (named []) (packets 1 (0xF0030000 ∷ [])) (0x03 ∷ 1 ∷ []) []
   pub case2 : Is K.EndpointName 1 (named (0x41 ∷ [])) (packets 1 (0xF0034100 ∷ [])) (0x03 ∷ 1 ∷ []) (0x41 ∷ [])
   pub case3 : Is K.EndpointName 1 (named (letters 14)) (0xF0036161 ∷ full) (0x03 ∷ 1 ∷ []) (letters 14)
   pub case4 : Is K.EndpointName 2 (named (letters 15)) (packets 2 ((0xF4036161 ∷ full) ++ 0xFC036100 ∷ [])) (0x03 ∷ 2 ∷ []) (letters 15)
-  -- block 5, thirteen and fourteen `a`
+  -- block 5: thirteen and fourteen `a`
   pub case5 : Is K.FunctionBlockName 1 (block 5 (letters 13)) (0xF0120561 ∷ full) (0x12 ∷ 1 ∷ 5 ∷ []) (letters 13)
   pub case6 : Is K.FunctionBlockName 2 (block 5 (letters 14)) (packets 2 ((0xF4120561 ∷ full) ++ 0xFC120561 ∷ [])) (0x12 ∷ 2 ∷ 5 ∷ []) (letters 14)
   -- fresh block info
   pub case7 : Is K.FunctionBlockInfo 1 [] (packets 1 (0xF0110003 ∷ [])) (0x11 ∷ 1 ∷ 0 ∷ 0 ∷ 0 ∷ 0 ∷ 3 ∷ 0 ∷ 0 ∷ 0 ∷ 0 ∷ []) []
-  -- port 3 comes before direction 0
+  -- port 3 is refused before direction 0
   pub case8 : saidRead (readOf (packets 1 (0xF011000C ∷ []))) ≡ refusal 9 0
   -- zeros are dropped before the text is checked
   pub case9 : (saidRead (readOf (packets 1 (0xF003C300 ∷ 0xA9000000 ∷ []))) ≡ accepted (0x03 ∷ 1 ∷ [])) × (textAt K.EndpointName (packets 1 (0xF003C300 ∷ 0xA9000000 ∷ [])) ≡ 0xC3 ∷ 0xA9 ∷ [])
   pub case10 : saidRead (readOf (packets 1 (0xF003C328 ∷ []))) ≡ refusal 11 0
   -- endpoint info 1.1, static, 4 blocks, both protocols
   pub case11 : Is K.EndpointInfo 1 (Setting.number Number.info-version-major 1 ∷ Setting.number Number.info-version-minor 1 ∷ Setting.flag Flag.static-function-blocks true ∷ Setting.number Number.number-of-function-blocks 4 ∷ Setting.flag Flag.supports-midi2-protocol true ∷ Setting.flag Flag.supports-midi1-protocol true ∷ []) (packets 1 (0xF0010101 ∷ 0x84000300 ∷ [])) (0x01 ∷ 1 ∷ 1 ∷ 1 ∷ 1 ∷ 1 ∷ 1 ∷ 0 ∷ 0 ∷ 4 ∷ []) []
-  -- case 6 with another block's number in its second packet
+  -- case 6 with another block number in its second packet
   pub case12 : saidRead (readOf (packets 2 ((0xF4120561 ∷ full) ++ 0xFC120661 ∷ []))) ≡ refusal 8 1

@@ -4,13 +4,15 @@ use mathlib.Core.List.{List}
 use lib.ListN.{length, getD, drop}
 use Rattle.laws.specs.Bits.{fieldOf}
 
--- bits 31..28, 27..26 and the ten bits under 0x03FF_0000
+-- bits 31..28
 abbrev pub typeOf : ℕ → ℕ
 typeOf w = fieldOf w 28 4
 
+-- bits 27..26
 abbrev pub formatOf : ℕ → ℕ
 formatOf w = fieldOf w 26 2
 
+-- bits 25..16
 abbrev pub statusOf : ℕ → ℕ
 statusOf w = fieldOf w 16 10
 
@@ -18,16 +20,18 @@ statusOf w = fieldOf w 16 10
 abbrev pub streamType : ℕ
 streamType = 0xF
 
--- the word with this status and format
+-- the head with this status and format
 abbrev pub headWord : ℕ → ℕ → ℕ
 headWord status format = streamType * 0x1000_0000 + format * 0x400_0000 + status * 0x1_0000
 
--- the whole packets of a slice, the words from packet p on, and its first word
+-- the number of whole packets
 abbrev pub packetsOf : List ℕ → ℕ
 packetsOf ws = length ws / 4
 
+-- the words from packet p on
 abbrev pub packetFrom : List ℕ → ℕ → List ℕ
 packetFrom ws p = drop (p * 4) ws
 
+-- the first word of packet p
 abbrev pub headAt : List ℕ → ℕ → ℕ
 headAt ws p = getD ws (p * 4) 0

@@ -1,4 +1,4 @@
--- A PACKET from any slice: the first four words, missing ones zero. And the size of the message that a slice starts with.
+-- A PACKET from any slice: its first four words, missing ones zero. And the size of the message at the start of a slice.
 use Prim.Native.Nat.{ℕ, _+_}
 use mathlib.Core.Bool.{Bool, true}
 use mathlib.Core.List.{List}
@@ -17,14 +17,14 @@ use Rattle.records.specs.declared.answers.MessageSize.the-variants as S
 use Rattle.kinds.specs.Choices.{formatFrom}
 use Rattle.standard.specs.Heads.{typeOf, formatOf, streamType, packetsOf, headAt}
 
--- from an empty slice refusal 1, of another type refusal 4
+-- refusal 1 for an empty slice, refusal 4 for another type
 unfoldable pub packetOf : List ℕ → PacketRead
 packetOf ws =
     pick (eqb (length ws) 0) (P.Refused TooFewWords)
     (pick (differ (typeOf (getD ws 0 0)) streamType) (P.Refused (WrongType (packet 0)))
     (P.Packet (record { 0 = getD ws 0 0; 1 = getD ws 1 0; 2 = getD ws 2 0; 3 = getD ws 3 0 })))
 
--- its format
+-- the format of a packet
 abbrev pub packetFormat : Packet → Format
 packetFormat p = formatFrom (formatOf (p .0))
 
@@ -32,7 +32,7 @@ packetFormat p = formatFrom (formatOf (p .0))
 abbrev pub endsMessage : List ℕ → ℕ → Bool
 endsMessage ws p = pick (eqb (formatOf (headAt ws p)) 0) true (eqb (formatOf (headAt ws p)) 3)
 
--- the words up to the first such packet, that packet too; refusal 1 where no whole packet ends it
+-- the words up to and including the first such packet; refusal 1 if no whole packet ends the message
 unfoldable pub messageSize : List ℕ → MessageSize
 messageSize ws =
     pick (ltb (first (endsMessage ws) (packetsOf ws)) (packetsOf ws)) (S.Words (firstWord (packet (first (endsMessage ws) (packetsOf ws) + 1)))) (S.Refused TooFewWords)

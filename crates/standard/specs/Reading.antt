@@ -1,4 +1,4 @@
--- READING ONE MESSAGE: refusals 1 to 11 in document 01's order, each over all packets; else the record.
+-- READING ONE MESSAGE: refusals 1 to 11 in document 01's order, each over all packets; otherwise the record.
 use Prim.Native.Nat.{ℕ, _%_}
 use mathlib.Core.Bool.{Bool, true, false}
 use mathlib.Core.List.{List, [], _∷_}
@@ -12,7 +12,7 @@ use Rattle.slots.specs.Slots.{Slot, get}
 use Rattle.utf8.specs.Utf8.{firstBad}
 use Rattle.utf8.specs.declared.Utf8.{Utf8}
 use Rattle.utf8.specs.declared.Utf8.the-variants.{Good, BadAt}
-use Rattle.text.specs.Octets.{due}
+use Rattle.text.specs.Octets.{dueFormat}
 use Rattle.text.specs.Bytes.{textOf}
 use Rattle.kinds.specs.declared.refusal.Refusal.{Refusal}
 use Rattle.kinds.specs.declared.refusal.Refusal.the-variants.{TooFewWords, NotWholePackets, TooManyPackets, WrongType, UnknownStatus, StatusDiffers, WrongFormat, BlockNumberDiffers, BadPort, BadDirection, NotUtf8}
@@ -28,11 +28,11 @@ use Rattle.kinds.specs.Layout.{Part, layout, capacityOf, mostOf, kindOf, values
 use Rattle.records.specs.Records.{recordOf}
 use Rattle.standard.specs.Heads.{typeOf, formatOf, statusOf, streamType, packetsOf, packetFrom, headAt}
 
--- the refusal at the first of n packets that breaks a rule, and `rest` where none does
+-- the refusal at the first of n packets that breaks a rule; `rest` if none does
 unfoldable pub ruled : (ℕ → Bool) → ℕ → (PacketNumber → Refusal) → Read → Read
 ruled broken n why rest = pick (ltb (first broken n) n) (R.Refused (why (packet (first broken n)))) rest
 
--- ---- the rules that a packet p can break
+-- ---- the rules that a packet p can break: another type, another status than packet 0, not the format due
 abbrev pub otherType : List ℕ → ℕ → Bool
 otherType ws p = differ (typeOf (headAt ws p)) streamType
 
@@ -40,28 +40,30 @@ abbrev pub otherStatus : List ℕ → ℕ → Bool
 otherStatus ws p = differ (statusOf (headAt ws p)) (statusOf (headAt ws 0))
 
 abbrev pub otherFormat : List ℕ → ℕ → Bool
-otherFormat ws p = differ (formatOf (headAt ws p)) (due (packetsOf ws) p)
+otherFormat ws p = differ (formatOf (headAt ws p)) (dueFormat (packetsOf ws) p)
 
--- a field of the kind is unlike the one in packet 0: of the seven kinds only a block name has one in several packets
+-- a field of the kind differs from that in packet 0; of the seven kinds only the block name has a field in several packets
 unfoldable pub otherField : List (Slot Part) → List ℕ → ℕ → Bool
 otherField [] ws p = false
 otherField (s ∷ ss) ws p = pick (differ (get s (packetFrom ws p)) (get s (packetFrom ws 0))) true (otherField ss ws p)
 
--- ---- what the words of a kind say
+-- ---- the contents of the words, for a kind
 abbrev pub valuesAt : Kind → List ℕ → Field → List ℕ
 valuesAt k ws = valuesIn (layout k .fields) ws
 
--- the code of a choice; its start, which is a good one, where the kind has no such choice
+-- the code of a choice; a kind without this choice gives its starting value, which is valid
 abbrev pub codeAt : Kind → List ℕ → Field → ℕ
 codeAt k ws f = getD (valuesAt k ws f) 0 0
 
--- no text, where the kind has none
+-- the text; empty if the kind has none
 abbrev pub textAt : Kind → List ℕ → List ℕ
 textAt k ws = textOf ws (capacityOf k) (packetsOf ws)
 
+-- the record
 abbrev pub messageAt : Kind → List ℕ → Message
 messageAt k ws = recordOf k (packetsOf ws) (valuesAt k ws)
 
+-- the text is not UTF-8
 abbrev pub isBad : Utf8 → Bool
 isBad Good = false
 isBad (BadAt n) = true
@@ -74,7 +76,7 @@ readBody k ws =
     (pick (isBad (firstBad (textAt k ws))) (R.Refused NotUtf8)
     (R.Message (messageAt k ws))))
 
--- ---- refusals 6, 7, a fixed kind in several packets before the formats, and 8
+-- ---- refusals 6, 7 (first for a fixed kind in several packets, then for the formats) and 8
 unfoldable pub readKind : Kind → List ℕ → Read
 readKind k ws =
     ruled (otherStatus ws) (packetsOf ws) StatusDiffers

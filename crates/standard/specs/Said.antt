@@ -1,4 +1,4 @@
--- What the answers about text say in document 01's numbers, as records/specs/Answers.antt does for the others.
+-- The answers about text in document 01's numbers; records/specs/Answers.antt has those for the others.
 use mathlib.Core.List.{[], _∷_}
 use Rattle.utf8.specs.declared.Utf8.{Utf8}
 use Rattle.utf8.specs.declared.Utf8.the-variants.{Good, BadAt}
@@ -12,7 +12,7 @@ abbrev pub saidStep : TextStep → Said
 saidStep (Byte b) = accepted (b ∷ [])
 saidStep End = accepted []
 
--- refusal 11, whose place is 0 for now; its value is the byte at which the bad character starts
+-- refusal 11 at place 0; its value is the byte at which the bad character starts
 abbrev pub saidUtf8 : Utf8 → Said
 saidUtf8 Good = accepted []
 saidUtf8 (BadAt n) = refused NotUtf8 (n .0 ∷ [])

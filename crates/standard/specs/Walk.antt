@@ -1,4 +1,4 @@
--- THE WALK: what stands at a word position of a stream.
+-- THE WALK: what is at a word position of a stream.
 use Prim.Native.Nat.{ℕ, zero, suc, _+_, _-_, _*_, _≤_, _<_}
 use mathlib.Core.List.{List}
 use lib.ListN.{length, getD, take, drop}
@@ -18,24 +18,24 @@ use Rattle.standard.specs.declared.Framed.the-variants.{Whole, Short, Br
 use Rattle.standard.specs.Heads.{typeOf, formatOf, statusOf, streamType}
 use Rattle.standard.specs.Reading.{readOf}
 
--- words by type: 0, 1, 2, 6, 7: 1; 3, 4, 8, 9, A: 2; B, C: 3; 5, D, E, F: 4
+-- the words of each type: 0, 1, 2, 6, 7: 1; 3, 4, 8, 9, A: 2; B, C: 3; 5, D, E, F: 4
 unfoldable pub sizeOf : ℕ → ℕ
 sizeOf t =
     pick (ltb t 3) 1 (pick (ltb t 5) 2 (pick (ltb t 6) 4 (pick (ltb t 8) 1 (pick (ltb t 11) 2 (pick (ltb t 13) 3 4)))))
 
 -- ---- the chain rule
--- outside a message, at packet 0, only Complete or Start may come; inside only Continue or End
+-- the first packet of a message must be Complete or Start, the others Continue or End
 unfoldable pub stepOf : ℕ → ℕ → Step
 stepOf p format =
     pick (eqb p 0) (pick (eqb format 0) Ends (pick (eqb format 1) Goes Wrong)) (pick (eqb format 3) Ends (pick (eqb format 2) Goes Wrong))
 
--- a message that ends with packet p, one that goes on with `rest`, or a wrong format
+-- the message ends with packet p, goes on with `rest`, or has a wrong format at packet p
 abbrev pub afterStep : Step → ℕ → Framed → Framed
 afterStep Ends p rest = Whole (packet (suc p))
 afterStep Goes p rest = rest
 afterStep Wrong p rest = Broken (WrongFormat (packet p))
 
--- packet p, at a word position, with what the packets after it give: fewer than four words left, type, status unlike the first, format
+-- packet p at word `at`, then `rest`: too few words, wrong type, another status than the first packet, then the format
 unfoldable pub framePacket : List ℕ → ℕ → ℕ → ℕ → Framed → Framed
 framePacket ws status p at rest =
     pick (ltb (length ws - at) 4) Short
@@ -43,16 +43,17 @@ framePacket ws status p at rest =
     (pick (differ (statusOf (getD ws at 0)) status) (Broken (StatusDiffers (packet p)))
     (afterStep (stepOf p (formatOf (getD ws at 0))) p rest)))
 
--- the packets from packet p on, of which at most `left` may still come: where packet 64 is due, too many, even with no words left
+-- the packets from packet p on, at most `left` more; where packet 64 would come, TooManyPackets, even if no words are left
 unfoldable pub frameFrom : ℕ → List ℕ → ℕ → ℕ → ℕ → Framed
 frameFrom zero ws status p at = Broken TooManyPackets
 frameFrom (suc left) ws status p at = framePacket ws status p at (frameFrom left ws status (suc p) (at + 4))
 
+-- the message at a position
 unfoldable pub frameOf : List ℕ → ℕ → Framed
 frameOf ws pos = frameFrom 64 ws (statusOf (getD ws pos 0)) 0 pos
 
--- ---- what the walk answers
--- a framed message is read, and the next position is the word after it
+-- ---- the answer of the walk
+-- a framed message is read; the next position is the word after it
 abbrev pub walkedOf : Read → ℕ → Walked
 walkedOf (R.Message m) next = W.Message m (word next)
 walkedOf (R.Refused r) next = W.Refused r (word next)
@@ -61,13 +62,13 @@ walkedOf (R.Refused r) next = W.Refused r (word next)
 abbrev pub part : List ℕ → ℕ → ℕ → List ℕ
 part ws pos n = take (pos + n * 4 - pos) (drop pos ws)
 
--- after refusal 1 the next position is the length, after the others of framing four words on
+-- after refusal 1 the next position is the length, after any other framing refusal four words on
 unfoldable pub framedOf : Framed → List ℕ → ℕ → Walked
 framedOf Short ws pos = W.Refused TooFewWords (word (length ws))
 framedOf (Broken r) ws pos = W.Refused r (word (pos + 4))
 framedOf (Whole n) ws pos = walkedOf (readOf (part ws pos (n .0))) (pos + n .0 * 4)
 
--- another type; with words missing it is refusal 1
+-- another type; refusal 1 if words are missing
 unfoldable pub otherOf : ℕ → List ℕ → ℕ → Walked
 otherOf t ws pos =
     pick (ltb (length ws - pos) (sizeOf t)) (W.Refused TooFewWords (word (length ws))) (W.Other t (word (sizeOf t)) (word (pos + sizeOf t)))
@@ -78,7 +79,7 @@ walkOf ws pos =
     pick (leb (length ws) pos) W.End
     (pick (differ (typeOf (getD ws pos 0)) streamType) (otherOf (typeOf (getD ws pos 0)) ws pos) (framedOf (frameOf ws pos) ws pos))
 
--- an answer at a position carries a next one, larger than it and at most the length
+-- every answer before the end has a next position, larger than the given one and at most the length
 abbrev Between : ℕ → ℕ → WordNumber → Type 0
 Between pos end n = (pos < n .0) × (n .0 ≤ end)
 

@@ -28,52 +28,55 @@ use Rattle.standard.specs.Heads.{headWord, packetsOf}
 use Rattle.standard.specs.Reading.{isBad}
 use Rattle.standard.specs.Walk.{walkOf}
 
--- what a call that is lent a buffer leaves: its answer, and the words afterwards
-pub record Left : Type 0 where
+-- the outcome of a call that changes a lent buffer: its answer, and the words afterwards
+pub record Outcome : Type 0 where
   pub answer : Answer
   pub words : List ℕ
 
-abbrev pub left : Answer → List ℕ → Left
-left a ws = record { answer = a; words = ws }
+abbrev pub outcome : Answer → List ℕ → Outcome
+outcome a ws = record { answer = a; words = ws }
 
 -- refused: no word is changed
-abbrev pub unchanged : Refusal → List ℕ → Left
-unchanged r ws = left (A.Refused r) ws
+abbrev pub unchanged : Refusal → List ℕ → Outcome
+unchanged r ws = outcome (A.Refused r) ws
 
--- no whole packet in the buffer
+-- the buffer has no whole packet
 abbrev pub noPacket : List ℕ → Bool
 noPacket ws = eqb (packetsOf ws) 0
 
--- ---- fresh
--- every whole packet zero, then type, Complete and status, and the starting values
+-- ---- fresh messages
+-- every whole packet zero, except for type, Complete, status and the starting values in the first
 unfoldable pub fresh : Kind → List ℕ → List ℕ
 fresh k ws = putAll (layout k .fields) (parts start) (blank (headWord (layout k .status) 0) ws)
 
--- refusals 5, then 14
-abbrev freshKnown : Known → List ℕ → Left
+-- refusal 5, then 14
+abbrev freshKnown : Known → List ℕ → Outcome
 freshKnown Unknown ws = unchanged UnknownStatus ws
-freshKnown (Is k) ws = pick (noPacket ws) (unchanged NoRoom ws) (left A.Done (fresh k ws))
+freshKnown (Is k) ws = pick (noPacket ws) (unchanged NoRoom ws) (outcome A.Done (fresh k ws))
 
-unfoldable pub freshOn : ℕ → List ℕ → Left
+-- A FRESH MESSAGE of a status
+unfoldable pub freshOn : ℕ → List ℕ → Outcome
 freshOn status ws = freshKnown (kindOf status) ws
 
--- ---- THE BUFFER that a value for each field gives
+-- ---- THE BUFFER for a given value of each field
 -- a table put into one word
 unfoldable pub putWord : List (Slot Part) → (Part → ℕ) → ℕ → ℕ
 putWord t v w = getD (putAll t v (w ∷ [])) 0 0
 
--- the head of a text packet by its format: type, format, status, and the fields
+-- the head of a text packet for each format: type, format, status, and the fields
 abbrev pub headOf : Row → (Field → List ℕ) → ℕ → ℕ
 headOf r v format = putWord (r .fields) (parts v) (headWord (r .status) format)
 
--- text with its head in each needed packet, and zeros in every whole packet after them
+-- the text with its head in each needed packet, and zeros in every whole packet after them
 abbrev pub textWritten : Row → ℕ → (Field → List ℕ) → List ℕ → List ℕ → List ℕ
 textWritten r cap v text ws = written ws text (headOf r v) cap (needed cap (length text))
 
+-- the buffer for given values: of a fixed kind, or of a text kind
 unfoldable pub encodeIn : Body → Row → List ℕ → (Field → List ℕ) → List ℕ
 encodeIn fixed r ws v = putAll (r .fields) (parts v) (blank (headWord (r .status) 0) ws)
 encodeIn (texts t from) r ws v = textWritten r (capacityIn (texts t from)) v (v (Field.text t)) ws
 
+-- the same for a kind
 unfoldable pub encode : Kind → List ℕ → (Field → List ℕ) → List ℕ
 encode k ws v = encodeIn (layout k .body) (layout k) ws v
 
@@ -82,11 +85,11 @@ encode k ws v = encodeIn (layout k .body) (layout k) ws v
 abbrev pub missing : Row → Setting → Bool
 missing r s = pick (isText (fieldIn s) (r .body)) false (lacks (r .fields) s)
 
--- packets that the setting needs: one, where it sets no text
+-- packets that the setting needs: one if it sets no text
 abbrev pub neededBy : Row → Setting → ℕ
 neededBy r s = needed (capacityIn (r .body)) (length (textIn s))
 
--- refusals 13, 12, 11, 3, 14: by the row, the whole packets of the buffer and the setting alone
+-- refusals 13, 12, 11, 3, 14; they depend only on the row, the buffer's whole packets and the setting
 unfoldable pub answerTo : Row → ℕ → Setting → Answer
 answerTo r room s =
     pick (missing r s) (A.Refused NoSuchField)
@@ -100,38 +103,40 @@ answerTo r room s =
 abbrev putSetting : Row → Setting → List ℕ → List ℕ
 putSetting r s ws = putAll (slotsOf (fieldIn s) (r .fields)) (parts (λ f. valueIn s)) ws
 
--- what an accepted setting does to the message of n packets at position 0: a text keeps the fields of its head, a head's field goes into each packet and none after
+-- an accepted setting on the message of n packets at position 0: setting the text keeps the fields of the head, setting a field of the head changes each of the n packets
 unfoldable pub actIn : Body → Row → ℕ → Setting → List ℕ → List ℕ
 actIn fixed r n s ws = putSetting r s ws
 actIn (texts t from) r n s ws =
     pick (isText (fieldIn s) (texts t from)) (textWritten r (capacityIn (texts t from)) (valuesIn (r .fields) ws) (textIn s) ws)
     (eachFirst n (putWord (slotsOf (fieldIn s) (r .fields)) (parts (λ f. valueIn s))) ws)
 
+-- the words after a setting with this answer
 abbrev pub afterAnswer : Answer → Row → ℕ → Setting → List ℕ → List ℕ
 afterAnswer A.Done r n s ws = actIn (r .body) r n s ws
 afterAnswer (A.Refused why) r n s ws = ws
 
-unfoldable pub setMessage : Message → Setting → List ℕ → Left
+-- a setting on the message m at position 0
+unfoldable pub setMessage : Message → Setting → List ℕ → Outcome
 setMessage m s ws =
-    left (answerTo (layout (kindIn m)) (packetsOf ws) s)
+    outcome (answerTo (layout (kindIn m)) (packetsOf ws) s)
     (afterAnswer (answerTo (layout (kindIn m)) (packetsOf ws) s) (layout (kindIn m)) (packetsIn m) s ws)
 
--- what the walk refuses at 0 comes first; another type there is refusal 4 at place 0, an empty slice refusal 1
-abbrev pub setWalked : Walked → Setting → List ℕ → Left
+-- a refusal of the walk at position 0 comes first; another type there is refusal 4 at place 0, an empty slice refusal 1
+abbrev pub setWalked : Walked → Setting → List ℕ → Outcome
 setWalked W.End s ws = unchanged TooFewWords ws
 setWalked (W.Other t size next) s ws = unchanged (WrongType (packet 0)) ws
 setWalked (W.Refused r next) s ws = unchanged r ws
 setWalked (W.Message m next) s ws = setMessage m s ws
 
 -- A SETTING ON WORDS
-unfoldable pub setOn : Setting → List ℕ → Left
+unfoldable pub setOn : Setting → List ℕ → Outcome
 setOn s ws = setWalked (walkOf ws 0) s ws
 
 -- ---- writing a record of a fixed kind
--- refusals 13 for a text kind, 12, 14; else the fresh message with the record's fields
-unfoldable pub writeOn : Message → List ℕ → Left
+-- refusal 13 for a text kind, then 12 and 14; otherwise a fresh message with the record's fields
+unfoldable pub writeOn : Message → List ℕ → Outcome
 writeOn m ws =
     pick (hasText (layout (kindIn m) .body)) (unchanged NoSuchField ws)
     (pick (not (fits (layout (kindIn m) .fields) (parts (valuesOf m)))) (unchanged NumberTooLarge ws)
     (pick (noPacket ws) (unchanged NoRoom ws)
-    (left A.Done (encode (kindIn m) ws (valuesOf m)))))
+    (outcome A.Done (encode (kindIn m) ws (valuesOf m)))))

@@ -1,16 +1,15 @@
-// What the port must do, by M2-104-UM and document 01: reading one message, the walk, packets, the text place, fresh messages, settings, writing.
-// Definitions and their laws; the code that meets them stands above. Two types are shared with that code.
+// What the library must do, by M2-104-UM and document 01: definitions and their laws. The code that meets them is in later crates, and shares these two types.
 use counts::PacketNumber;
 use kinds::refusal::Refusal;
 
-// What a packet's format says of the message that it is in.
+// What a packet's format means at its place in a message.
 pub enum Step {
     Ends,
     Goes,
     Wrong,
 }
 
-// The packets of a message in a stream, or why they are none.
+// The packets of a message in a stream: how many, or why there is no message.
 pub enum Framed {
     Whole(PacketNumber),
     Short,

@@ -1,4 +1,4 @@
--- What was written is read back, over the capacity. Closed by octets of words, and division of a byte's number by the capacity.
+-- Text that was written is read back, for any capacity. Proved from the octets of words, and by dividing a byte's number by the capacity.
 use Prim.Native.Nat.{ℕ, zero, suc, _+_, _-_, _*_, _/_, _%_, _<_, _≤_}
 use mathlib.Core.Path.{_≡_, sym, ap, _∙_}
 use mathlib.Core.Bool.{Bool, true, false}
@@ -13,7 +13,7 @@ use Rattle.laws.specs.Bits.{wordOf}
 use Rattle.laws.specs.Lists.{tabulate, nonzero}
 use Rattle.laws.proofs.Pick.{below}
 use Rattle.laws.proofs.Lists.{length-tabulate, getD-tabulate, tabulate-ext, pad-dropped}
-use Rattle.text.specs.Octets.{octetOf, due}
+use Rattle.text.specs.Octets.{octetOf, dueFormat}
 use Rattle.text.specs.Written.{headOctet, octetAt, wordIn, written}
 use Rattle.text.specs.Bytes.{textByte, allBytes, textOf}
 use Rattle.text.proofs.Written.{octet-head, octet-text, word-at}
@@ -51,7 +51,7 @@ head-small head j = go (ltb j 4)
 module _ (ws text : List ℕ) (head : ℕ → ℕ) (cap n : ℕ) (ht : (k : ℕ) → getD text k 0 < 256) (hc : cap ≤ 14) (hw : n * 4 ≤ length ws) where
   pub octets-small : (p j : ℕ) → octetAt text head cap n p j < 256
   octets-small p j =
-      ⊎-elim (λ (l : j < 16 - cap). rw (octet-head text head cap n p j l) (head-small (head (due n p)) j))
+      ⊎-elim (λ (l : j < 16 - cap). rw (octet-head text head cap n p j l) (head-small (head (dueFormat n p)) j))
       (λ (l : 16 - cap ≤ j). rw (octet-text text head cap n p j l) (ht _)) (below j (16 - cap))
 
   -- octet j of packet p
@@ -68,13 +68,13 @@ module _ (ws text : List ℕ) (head : ℕ → ℕ) (cap n : ℕ) (ht : (k : ℕ)
       let d : 16 - cap + b - (16 - cap) ≡ b = omega arith in
       octet-back p (16 - cap + b) hp (omega arith) ∙ octet-text text head cap n p (16 - cap + b) (omega arith) ∙ rw d
 
-  -- all the bytes: the text, and zeros after it
+  -- all text bytes: the text, and zeros after it
   pub bytes-back : 0 < cap → allBytes (written ws text head cap n) cap n ≡ tabulate (n * cap) (λ m. getD text m 0)
   unfolding allBytes
   bytes-back pos =
       sym (tabulate-ext (tabulate (n * cap) (λ m. getD text m 0)) (n * cap) _ (length-tabulate _ _)
       (λ m h. getD-tabulate (n * cap) (λ i. getD text i 0) m h ∙ sym (byte-back (m / cap) (m % cap) (div-lt-iff-lt-mul pos .1 h) (mod-lt m pos) ∙ ap (λ (i : ℕ). getD text i 0) (div-add-mod' m cap))))
 
-  -- THE TEXT THAT IS READ BACK is the text with its zeros dropped
+  -- THE TEXT THAT IS READ BACK is the written text without its zeros
   pub text-back : 0 < cap → length text ≤ n * cap → textOf (written ws text head cap n) cap n ≡ nonzero text
   text-back pos l = ap nonzero (bytes-back pos) ∙ pad-dropped text (n * cap) l

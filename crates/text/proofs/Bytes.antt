@@ -1,4 +1,4 @@
--- The text bytes of packets, one packet after another. Closed by division of a byte's number by the capacity.
+-- The text bytes of packets, one packet after another. Proved by dividing a byte's number by the capacity.
 use Prim.Native.Nat.{ℕ, zero, suc, _+_, _*_, _/_, _%_, _<_}
 use mathlib.Core.Path.{_≡_}
 use mathlib.Core.List.{List, _++_}
@@ -16,7 +16,7 @@ some-text : (n cap i : ℕ) → i < n * cap → 0 < cap
 some-text n zero i h = absurd (omega (arith, mul-zero n))
 some-text n (suc cap) i h = omega arith
 
--- those of packet p, and those of the packets after it
+-- the bytes of packet p, then those of the packets after it
 pub bytes-packet : (ws : List ℕ) (cap p n : ℕ) → bytesFrom ws cap p (suc n) ≡ tabulate cap (textByte ws cap p) ++ bytesFrom ws cap (suc p) n
 bytes-packet ws cap p n =
     rw (suc-mul, add-comm (n * cap) cap)

@@ -1,4 +1,4 @@
--- The first word of a text packet, by where the text starts: at octet 2, 3, or past the word. Closed by octets of a word.
+-- The first word of a text packet: the text starts at octet 2, at octet 3, or after the word. Proved from the octets of a word.
 use Prim.Native.Nat.{ℕ, zero, suc, _+_, _-_, _*_, _/_, _%_, _^_, _<_, _≤_}
 use mathlib.Core.Path.{_≡_, _∙_, refl}
 use mathlib.Core.List.{List}
@@ -7,11 +7,11 @@ use lib.ListN.{getD}
 use lib.Pow.{shr-shr}
 use borrow.Author.Tests.{lt-ltb}
 use Rattle.laws.specs.Bits.{wordOf}
-use Rattle.text.specs.Octets.{octetOf, due}
+use Rattle.text.specs.Octets.{octetOf, dueFormat}
 use Rattle.text.specs.Written.{headOctet, octetAt, wordIn}
 use Rattle.text.proofs.Written.{octet-head, octet-text}
 
--- a word from its octets: all of them, or the low ones changed
+-- a word from its octets: all of them, or with one or two low ones replaced
 pub octets-of : (w : ℕ) → w < 2 ^ 32 → (wordOf (octetOf w 0) (octetOf w 1) (octetOf w 2) (octetOf w 3) ≡ w) × ((b : ℕ) → wordOf (octetOf w 0) (octetOf w 1) (octetOf w 2) b ≡ w / 256 * 256 + b) × ((b c : ℕ) → wordOf (octetOf w 0) (octetOf w 1) b c ≡ w / 65536 * 65536 + (b * 256 + c))
 unfolding octetOf
 octets-of w h =
@@ -35,18 +35,18 @@ unfolding headOctet
 head-octet head j h = simp (lt-ltb j 4 h)
 
 module _ (text : List ℕ) (head : ℕ → ℕ) (n p : ℕ) where
-  before : (cap j : ℕ) → j < 4 → j < 16 - cap → octetAt text head cap n p j ≡ octetOf (head (due n p)) j
-  before cap j h l = octet-head text head cap n p j l ∙ head-octet (head (due n p)) j h
+  before : (cap j : ℕ) → j < 4 → j < 16 - cap → octetAt text head cap n p j ≡ octetOf (head (dueFormat n p)) j
+  before cap j h l = octet-head text head cap n p j l ∙ head-octet (head (dueFormat n p)) j h
 
-  pub word-2 : wordIn text head 14 n p 0 ≡ wordOf (octetOf (head (due n p)) 0) (octetOf (head (due n p)) 1) (getD text (p * 14 + 0) 0) (getD text (p * 14 + 1) 0)
+  pub word-2 : wordIn text head 14 n p 0 ≡ wordOf (octetOf (head (dueFormat n p)) 0) (octetOf (head (dueFormat n p)) 1) (getD text (p * 14 + 0) 0) (getD text (p * 14 + 1) 0)
   unfolding wordIn
   word-2 = rw (before 14 0 (omega arith) (omega arith), before 14 1 (omega arith) (omega arith), octet-text text head 14 n p 2 (omega arith), octet-text text head 14 n p 3 (omega arith))
 
-  pub word-3 : wordIn text head 13 n p 0 ≡ wordOf (octetOf (head (due n p)) 0) (octetOf (head (due n p)) 1) (octetOf (head (due n p)) 2) (getD text (p * 13 + 0) 0)
+  pub word-3 : wordIn text head 13 n p 0 ≡ wordOf (octetOf (head (dueFormat n p)) 0) (octetOf (head (dueFormat n p)) 1) (octetOf (head (dueFormat n p)) 2) (getD text (p * 13 + 0) 0)
   unfolding wordIn
   word-3 = rw (before 13 0 (omega arith) (omega arith), before 13 1 (omega arith) (omega arith), before 13 2 (omega arith) (omega arith), octet-text text head 13 n p 3 (omega arith))
 
-  pub word-4 : (cap : ℕ) → cap ≤ 12 → wordIn text head cap n p 0 ≡ wordOf (octetOf (head (due n p)) 0) (octetOf (head (due n p)) 1) (octetOf (head (due n p)) 2) (octetOf (head (due n p)) 3)
+  pub word-4 : (cap : ℕ) → cap ≤ 12 → wordIn text head cap n p 0 ≡ wordOf (octetOf (head (dueFormat n p)) 0) (octetOf (head (dueFormat n p)) 1) (octetOf (head (dueFormat n p)) 2) (octetOf (head (dueFormat n p)) 3)
   unfolding wordIn
   word-4 cap l =
       rw (before cap 0 (omega arith) (omega arith), before cap 1 (omega arith) (omega arith), before cap 2 (omega arith) (omega arith), before cap 3 (omega arith) (omega arith))

@@ -4,5 +4,5 @@ pub mod Bytes
 pub mod Back
 pub mod Place
 pub mod Rewritten
-pub mod Fours
+pub mod BigEndian
 pub mod First

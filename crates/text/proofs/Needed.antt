@@ -1,4 +1,4 @@
--- Packets needed: they hold the text, no fewer do, and how the code counts them. Closed by division with remainder.
+-- Packets needed: they hold the text, fewer would not, and the code counts them right. Proved by division with remainder.
 use Prim.Native.Nat.{ℕ, zero, suc, _+_, _-_, _*_, _/_, _<_, _≤_}
 use mathlib.Core.Path.{_≡_, ap}
 use mathlib.Core.Bool.{Bool, true, false}
@@ -9,9 +9,9 @@ use borrow.Author.Tests.{ne-eqb, eqb-false}
 use Rattle.laws.specs.Pick.{pick}
 use Rattle.laws.proofs.Pick.{split}
 use Rattle.counts.specs.Counts.{packet}
-use Rattle.text.specs.Octets.{needed, due}
+use Rattle.text.specs.Octets.{needed, dueFormat}
 
--- they hold it
+-- the needed packets hold the text
 pub needed-holds : (cap n : ℕ) → 0 < cap → n ≤ needed cap n * cap
 unfolding needed
 needed-holds cap zero pos = omega arith
@@ -19,7 +19,7 @@ needed-holds cap (suc n) pos =
     simp (ne-eqb (suc n) 0 (λ e. omega arith))
     (omega (arith, div-add-mod' (suc n + (cap - 1)) cap, mod-lt (suc n + (cap - 1)) pos))
 
--- and no fewer do: not one packet more where the text fills the last exactly
+-- fewer packets do not; a text that fills its last packet needs no further one
 pub needed-least : (cap m n : ℕ) → 0 < cap → 0 < n → m ≤ n * cap → needed cap m ≤ n
 unfolding needed
 needed-least cap zero n pos one h = omega arith
@@ -43,7 +43,7 @@ needed-some cap (suc m) h = go (needed cap (suc m)) (needed-holds cap (suc m) h)
 
 -- ---- as the code counts them
 module _ (cap bytes : ℕ) where
-  -- one packet holds what is no more than its capacity
+  -- a text up to the capacity needs one packet
   pub needed-few : bytes ≤ cap → packet 1 ≡ packet (needed cap bytes)
   unfolding needed
   needed-few h = ap packet (split (eqb bytes 0) (λ t. rw t) (λ f. rw f (some (eqb-false bytes 0 f))))
@@ -64,14 +64,14 @@ module _ (cap bytes : ℕ) where
       let e : bytes + (cap - 1) ≡ bytes - 1 + cap = omega arith in
       rw (ne-eqb bytes 0 n, e, add-div-right (bytes - 1) {k = cap} (omega arith))
 
-  -- a text has no fewer bytes than packets
+  -- a text has at least as many bytes as packets
   pub packets-fit : (bytes ≡ 0 → ⊥) → (bytes - 1) / cap + 1 ≤ bytes
   packets-fit n = omega (arith, div-le-self (bytes - 1) cap)
 
 -- ---- a format is one of four
-pub due-small : (n p : ℕ) → due n p < 4
-unfolding due
-due-small n p = go (leb n 1) (eqb p 0) (ltb p (n - 1))
+pub due-format-small : (n p : ℕ) → dueFormat n p < 4
+unfolding dueFormat
+due-format-small n p = go (leb n 1) (eqb p 0) (ltb p (n - 1))
   where
     go : (t u v : Bool) → pick t 0 (pick u 1 (pick v 2 3)) < 4
     go true u v = omega arith

@@ -1,4 +1,4 @@
--- The text place, over any capacity: what a step does at each kind of place, and what steps from a place hand out. Closed by induction on the bytes left, from `step-past`, `step-zero` and `step-byte`.
+-- The text place, for any capacity: what one step does at each kind of place, and which bytes the steps from a place return. By induction on the remaining bytes, from `step-past`, `step-zero` and `step-byte`.
 use Prim.Native.Nat.{ℕ, zero, suc, _+_, _-_, _*_, _/_, _<_, _≤_}
 use mathlib.Core.Path.{_≡_, refl, sym, ap, subst, _∙_}
 use mathlib.Core.Logic.{⊎-elim}
@@ -26,14 +26,14 @@ use Rattle.text.specs.declared.Stepped.{Stepped}
 abbrev bytesIn : List ℕ → ℕ → List ℕ
 bytesIn ws cap = allBytes ws cap (length ws / 4)
 
--- the byte at a place of a whole packet, within its text
+-- the byte at a place inside the text of a whole packet
 pub byte-in : (ws : List ℕ) (cap : ℕ) (at : TextPlace) → at .packet .0 < length ws / 4 → at .byte .0 < cap → byteAt ws cap at ≡ textByte ws cap (at .packet .0) (at .byte .0)
 unfolding byteAt
 byte-in ws cap at hp hb = simp (lt-leb (length ws / 4) (at .packet .0) hp, lt-leb cap (at .byte .0) hb)
 
--- ---- places and bytes counted over all packets
+-- ---- places, and byte numbers counted over all packets
 module _ (cap : ℕ) where
-  -- the count of a place is the count that the place was made of
+  -- from a byte number to its place and back
   pub place-back : (m : ℕ) → byteFrom cap (textPlaceAt cap m) ≡ m
   place-back m = div-add-mod' m cap
 
@@ -41,11 +41,11 @@ module _ (cap : ℕ) where
   place-low pos m = mod-lt m pos
 
   module _ (at : TextPlace) (hb : at .byte .0 < cap) where
-    -- and back, where the byte is within the capacity
+    -- from a place to its byte number and back, if the byte is below the capacity
     pub place-is : textPlaceAt cap (byteFrom cap at) ≡ at
     place-is = rw (digits-div (at .packet .0) hb, digits-mod (at .packet .0) hb)
 
-    -- a place of a packet below n is a byte below n packets' bytes
+    -- a place in one of n packets has a byte number below n times the capacity
     pub place-inside : (n : ℕ) → at .packet .0 < n → byteFrom cap at < n * cap
     place-inside n hp = digits-lt hp hb
 
@@ -62,7 +62,7 @@ next-low cap at pos = place-low cap pos (suc (byteFrom cap at))
 pub end-is : (ws : List ℕ) (cap : ℕ) → 0 < cap → textPlaceAt cap (length ws / 4 * cap) ≡ endPlace ws
 end-is ws cap pos = rw (mul-div-cancel (length ws / 4) pos, mul-mod-left)
 
--- the place after one, as it is reckoned: in the next packet after a packet's last byte
+-- the next place, as the code computes it: after a packet's last byte comes the next packet
 pub next-packet : (cap : ℕ) (at : TextPlace) → at .byte .0 + 1 ≡ cap → record { packet = packet (at .packet .0 + 1); byte = byte 0 } ≡ nextPlace cap at
 next-packet cap at e =
     let q : (at .packet .0 + 1) * cap + 0 ≡ suc (byteFrom cap at) = omega (arith, add-mul (at .packet .0) 1 cap) in
@@ -96,7 +96,7 @@ unfolding seek
 seek-end cap m = refl
 
 module _ (ws : List ℕ) (cap : ℕ) where
-  -- A PLACE AT OR PAST THE COUNT, OR AT OR PAST THE CAPACITY, is the end and does not move
+  -- A PLACE AT OR PAST THE PACKET COUNT OR THE CAPACITY is the end and does not move
   pub step-past : (at : TextPlace) → length ws / 4 ≤ at .packet .0 → stepAt ws cap at ≡ stepped End at
   unfolding stepAt
   step-past at hp = sym (here _ (le-leb _ _ hp) refl)
@@ -109,7 +109,7 @@ module _ (ws : List ℕ) (cap : ℕ) where
   unfolding stepAt
   step-in at hp hb = sym (past _ (lt-leb _ _ hp) (past _ (lt-leb _ _ hb) refl))
 
-  -- any place within the capacity: what is sought from its byte on
+  -- at any place below the capacity, a step seeks from its byte on
   step-seek : (at : TextPlace) → at .byte .0 < cap → stepAt ws cap at ≡ seek cap (drop (byteFrom cap at) (bytesIn ws cap)) (byteFrom cap at)
   step-seek at hb = ⊎-elim (λ h. step-in at h hb) outside (below (at .packet .0) (length ws / 4))
     where
@@ -118,11 +118,11 @@ module _ (ws : List ℕ) (cap : ℕ) where
           let l : length (bytesIn ws cap) ≤ byteFrom cap at = rw length-all (place-outside cap at hb (length ws / 4) h) in
           step-past at h ∙ sym (rw (drop-of-length-le (bytesIn ws cap) l) (seek-end cap (byteFrom cap at) ∙ ap (stepped End) (place-is cap at hb)))
 
-  -- the step from byte m, counted over all packets
+  -- the step from byte number m
   step-from : 0 < cap → (m : ℕ) → stepAt ws cap (textPlaceAt cap m) ≡ seek cap (drop m (bytesIn ws cap)) m
   step-from pos m = step-seek (textPlaceAt cap m) (place-low cap pos m) ∙ rw (place-back cap m)
 
-  -- a place within the text: a zero is passed, and another byte is handed out with the place after it
+  -- inside the text: a zero is passed over, any other byte is returned with the place after it
   module _ (at : TextPlace) (hp : at .packet .0 < length ws / 4) (hb : at .byte .0 < cap) where
     opened : drop (byteFrom cap at) (bytesIn ws cap) ≡ textByte ws cap (at .packet .0) (at .byte .0) ∷ drop (suc (byteFrom cap at)) (bytesIn ws cap)
     opened =
@@ -135,7 +135,7 @@ module _ (ws : List ℕ) (cap : ℕ) where
     pub step-byte : (textByte ws cap (at .packet .0) (at .byte .0) ≡ 0 → ⊥) → stepAt ws cap at ≡ stepped (Byte (textByte ws cap (at .packet .0) (at .byte .0))) (nextPlace cap at)
     step-byte n = step-in at hp hb ∙ rw opened (seek-byte cap _ _ _ n)
 
-  -- the bytes from byte m on are xs: what the step from there finds
+  -- the step from byte number m, if the bytes from there on are xs
   module _ (pos : 0 < cap) (m : ℕ) where
     step-rest : (xs : List ℕ) → drop m (bytesIn ws cap) ≡ xs → stepAt ws cap (textPlaceAt cap m) ≡ seek cap xs m
     step-rest xs e = step-from pos m ∙ ap (λ (l : List ℕ). seek cap l m) e
@@ -152,18 +152,18 @@ module _ (ws : List ℕ) (cap : ℕ) where
   from-zero : (pos : 0 < cap) (m x : ℕ) (xs : List ℕ) → drop m (bytesIn ws cap) ≡ x ∷ xs → x ≡ 0 → stepAt ws cap (textPlaceAt cap m) ≡ stepAt ws cap (textPlaceAt cap (suc m))
   from-zero pos m x xs e z = step-rest pos m (x ∷ xs) e ∙ seek-zero cap x xs m z ∙ sym (step-rest pos (suc m) xs (rest pos m x xs e))
 
-  -- a place that is the end stays so, step after step
+  -- a place that is the end stays there, step after step
   pub stays : (k : ℕ) (at : TextPlace) → stepAt ws cap at ≡ stepped End at → placeAfter k ws cap at ≡ at
   unfolding placeAfter
   stays zero at e = refl
   stays (suc k) at e = rw e (stays k at e)
 
-  -- a place with the same step hands out the same
+  -- places with the same step return the same bytes
   hands-same : {at to : TextPlace} {xs : List ℕ} → stepAt ws cap at ≡ stepAt ws cap to → HandsOut ws cap to xs → HandsOut ws cap at xs
   hands-same e (none f) = none (e ∙ f)
   hands-same e (more f r) = more (e ∙ f) r
 
-  -- the bytes xs are those from byte m on
+  -- xs are the bytes from byte number m on
   hands-from : 0 < cap → (xs : List ℕ) (m : ℕ) → m + length xs ≡ length ws / 4 * cap → drop m (bytesIn ws cap) ≡ xs → HandsOut ws cap (textPlaceAt cap m) (nonzero xs)
   hands-from pos [] m l e =
       let q : length ws / 4 * cap ≡ m = omega arith in
@@ -175,7 +175,7 @@ module _ (ws : List ℕ) (cap : ℕ) where
           split (eqb x 0) (λ t. let z : x ≡ 0 = eqb-true x 0 t in rw (nonzero-zero x xs z) (hands-same (from-zero pos m x xs e z) ih))
           (λ t. let z : x ≡ 0 → ⊥ = eqb-false x 0 t in rw (nonzero-kept x xs z) (more (from-byte pos m x xs e z) ih))
 
-  -- FROM ANY PLACE WITHIN THE TEXT, steps hand out the bytes from there on with zeros dropped
+  -- FROM ANY PLACE INSIDE THE TEXT, steps return the remaining bytes without zeros
   pub hands-rest : (at : TextPlace) → at .packet .0 < length ws / 4 → at .byte .0 < cap → HandsOut ws cap at (nonzero (drop (byteFrom cap at) (bytesIn ws cap)))
   hands-rest at hp hb =
       let l : byteFrom cap at < length ws / 4 * cap = digits-lt hp hb in
@@ -183,7 +183,7 @@ module _ (ws : List ℕ) (cap : ℕ) where
       subst (λ (p : TextPlace). HandsOut ws cap p (nonzero (drop (byteFrom cap at) (bytesIn ws cap)))) (place-is cap at hb)
       (hands-from (omega arith) (drop (byteFrom cap at) (bytesIn ws cap)) (byteFrom cap at) (omega arith) refl)
 
-  -- FROM THE START, the whole text
+  -- FROM THE START, steps return the whole text
   pub hands-all : 0 < cap → HandsOut ws cap startPlace (textOf ws cap (length ws / 4))
   hands-all pos =
       let q : 0 ≡ byteFrom cap startPlace = omega arith in
@@ -191,9 +191,9 @@ module _ (ws : List ℕ) (cap : ℕ) where
       subst (λ (p : TextPlace). HandsOut ws cap p (textOf ws cap (length ws / 4))) (ap (textPlaceAt cap) q ∙ place-is cap startPlace pos)
       (hands-from pos (bytesIn ws cap) 0 (omega arith) refl)
 
--- ---- what a place that hands out xs tells
+-- ---- what follows if the steps from a place return xs
 module _ {ws : List ℕ} {cap : ℕ} where
-  -- as many steps as there are bytes, or more, give them all
+  -- at least as many steps as there are bytes return them all
   pub handed-is : {at : TextPlace} {xs : List ℕ} → HandsOut ws cap at xs → (n : ℕ) → length xs ≤ n → handed n ws cap at ≡ xs
   unfolding handed
   handed-is (none e) zero h = refl
@@ -201,7 +201,7 @@ module _ {ws : List ℕ} {cap : ℕ} where
   handed-is (more e r) zero h = absurd (omega arith)
   handed-is (more e r) (suc n) h = rw (e, handed-is r n (omega arith))
 
-  -- step k hands out byte k
+  -- step k returns byte k
   pub step-number : {at : TextPlace} {xs : List ℕ} → HandsOut ws cap at xs → (k : ℕ) → k < length xs → stepAt ws cap (placeAfter k ws cap at) .step ≡ Byte (getD xs k 0)
   unfolding placeAfter
   step-number (none e) k h = absurd (omega arith)
@@ -218,13 +218,13 @@ module _ {ws : List ℕ} {cap : ℕ} where
   end-after (more e r) zero h = absurd (omega arith)
   end-after (more e r) (suc k) h = rw e (end-after r k (omega arith))
 
-  -- a step that is the end finds no byte left
+  -- a step that is the end means that no byte is left
   ended-of : {at : TextPlace} {xs : List ℕ} → HandsOut ws cap at xs → stepAt ws cap at .step ≡ End → stepAt ws cap at ≡ stepped End (endPlace ws)
   ended-of (none e) t = e
   ended-of (more e r) t = never (let q = ap (λ (s : Stepped). s .step) e in cc)
 
 module _ (ws : List ℕ) (cap : ℕ) where
-  -- WITHIN THE TEXT, a step that is the end leaves the place at packet count, byte 0
+  -- INSIDE THE TEXT, a step that is the end leaves the place at packet count, byte 0
   pub end-within : (at : TextPlace) → at .packet .0 < length ws / 4 → at .byte .0 < cap → stepAt ws cap at .step ≡ End → stepAt ws cap at ≡ stepped End (endPlace ws)
   end-within at hp hb t = ended-of (hands-rest ws cap at hp hb) t
 
@@ -238,10 +238,10 @@ module _ (ws : List ℕ) (cap : ℕ) where
       at-end e f = rw e f
 
   module _ (pos : 0 < cap) where
-    -- STEPS FROM THE START give the text: every byte but the zeros, in order
+    -- STEPS FROM THE START return the text: all nonzero bytes, in order
     pub handed-all : (n : ℕ) → length ws / 4 * cap ≤ n → handed n ws cap startPlace ≡ textOf ws cap (length ws / 4)
     handed-all n h = handed-is (hands-all ws cap pos) n (omega (arith, nonzero-length (bytesIn ws cap), length-all ws cap (length ws / 4)))
 
-    -- AFTER THE LAST BYTE THAT IS NOT ZERO, the next step is the end and leaves the place at packet count, byte 0
+    -- AFTER THE LAST NONZERO BYTE, the next step is the end and leaves the place at packet count, byte 0
     pub end-next : stepAt ws cap (placeAfter (length (textOf ws cap (length ws / 4))) ws cap startPlace) ≡ stepped End (endPlace ws)
     end-next = end-after (hands-all ws cap pos) _ (omega arith)

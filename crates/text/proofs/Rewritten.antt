@@ -1,4 +1,4 @@
--- Text written over text, and a change of the first word of each packet. Closed by the laws of `upTo`, word by word.
+-- Text written over text, and a change of the first word of each packet. Proved from the laws of `upTo`, word by word.
 use Prim.Native.Nat.{ℕ, _+_, _-_, _*_, _/_, _%_, _<_, _≤_}
 use mathlib.Core.Path.{_≡_, refl, sym, ap, _∙_}
 use mathlib.Core.Bool.{Bool, true, false}
@@ -20,7 +20,7 @@ pub written-over : (ws a b : List ℕ) (h h′ : ℕ → ℕ) (cap n n′ : ℕ)
 unfolding written
 written-over ws a b h h′ cap n n′ = rw (length-upTo (wholeWords ws) (wordNew a h cap n) ws) (upTo-over (wholeWords ws) _ _ ws)
 
--- ---- past the first word nothing depends on the head, nor on how many packets there are
+-- ---- after the first word nothing depends on the head or on the number of packets
 pub head-zero : (head j : ℕ) → 4 ≤ j → headOctet head j ≡ 0
 unfolding headOctet
 head-zero head j h = simp (le-ltb j 4 h)

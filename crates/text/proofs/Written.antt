@@ -1,4 +1,4 @@
--- What stands at each word of a buffer that text was written into. Closed by the laws of `upTo`.
+-- Each word of a buffer that text was written into. Proved from the laws of `upTo`.
 use Prim.Native.Nat.{ℕ, _+_, _-_, _*_, _/_, _%_, _<_, _≤_}
 use mathlib.Core.Path.{_≡_, _∙_}
 use mathlib.Core.List.{List}
@@ -6,11 +6,11 @@ use native.Mathlib.Omega.{arith}
 use lib.ListN.{length, getD}
 use borrow.Author.Tests.{lt-ltb, le-ltb}
 use Rattle.laws.proofs.Lists.{length-upTo, upTo-below, upTo-rest}
-use Rattle.text.specs.Octets.{due}
+use Rattle.text.specs.Octets.{dueFormat}
 use Rattle.text.specs.Written.{headOctet, octetAt, wordIn, wordNew, wholeWords, written, blank}
 
 module _ (text : List ℕ) (head : ℕ → ℕ) (cap n : ℕ) where
-  pub octet-head : (p j : ℕ) → j < 16 - cap → octetAt text head cap n p j ≡ headOctet (head (due n p)) j
+  pub octet-head : (p j : ℕ) → j < 16 - cap → octetAt text head cap n p j ≡ headOctet (head (dueFormat n p)) j
   unfolding octetAt
   octet-head p j h = simp (lt-ltb j (16 - cap) h)
 

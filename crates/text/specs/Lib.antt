@@ -3,4 +3,4 @@ pub mod Written
 pub mod Bytes
 pub mod Place
 pub mod Handed
-pub mod Four
+pub mod BigEndian

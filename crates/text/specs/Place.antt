@@ -1,4 +1,4 @@
--- Text handed out a byte at a time: the step from a text place.
+-- Reading text one byte at a time: the step from a text place.
 use Prim.Native.Nat.{ℕ, suc, _+_, _*_, _/_, _%_}
 use mathlib.Core.List.{List, [], _∷_}
 use lib.ListN.{length, drop}
@@ -11,28 +11,29 @@ use Rattle.text.specs.declared.TextStep.{TextStep}
 use Rattle.text.specs.declared.TextStep.the-variants.{Byte, End}
 use Rattle.text.specs.declared.Stepped.{Stepped}
 
--- the place of byte m, counted over the text bytes of all packets
+-- the place of byte number m, counted over the text bytes of all packets
 abbrev pub textPlaceAt : ℕ → ℕ → TextPlace
 textPlaceAt cap m = record { packet = packet (m / cap); byte = byte (m % cap) }
 
--- and back
+-- the byte number of a place
 abbrev pub byteFrom : ℕ → TextPlace → ℕ
 byteFrom cap at = at .packet .0 * cap + at .byte .0
 
--- the text byte at a place, and 0 where no whole packet has such a byte
+-- the text byte at a place; 0 if no whole packet has such a byte
 unfoldable pub byteAt : List ℕ → ℕ → TextPlace → ℕ
 byteAt ws cap at =
     pick (leb (length ws / 4) (at .packet .0)) 0 (pick (leb cap (at .byte .0)) 0 (textByte ws cap (at .packet .0) (at .byte .0)))
 
+-- a step and the place after it
 abbrev pub stepped : TextStep → TextPlace → Stepped
 stepped s at = record { step = s; place = at }
 
--- of the bytes from byte m on, the first that is not zero and the place after it; else the end, after them all
+-- the first nonzero byte of the bytes from number m on, with the place after it; the end if there is none
 unfoldable pub seek : ℕ → List ℕ → ℕ → Stepped
 seek cap [] m = stepped End (textPlaceAt cap m)
 seek cap (x ∷ xs) m = pick (eqb x 0) (seek cap xs (suc m)) (stepped (Byte x) (textPlaceAt cap (suc m)))
 
--- a place with its packet at or past the count, or its byte at or past the capacity, is the end and does not move
+-- a place at or past the packet count or the capacity is the end and does not move
 unfoldable pub stepAt : List ℕ → ℕ → TextPlace → Stepped
 stepAt ws cap at =
     pick (leb (length ws / 4) (at .packet .0)) (stepped End at)

@@ -1,4 +1,4 @@
-// Text handed out a byte at a time, by value: each step takes a place and gives the one after it.
+// Reading text one byte at a time, by value: a step takes a place and returns the next one.
 ghost use mathlib.Core.Path.{_≡_};
 ghost use Prim.Native.Nat.{_+_, _-_, _^_, _<_};
 ghost use Rattle.text.specs.Octets.{octetOf};
@@ -12,14 +12,14 @@ use counts::PacketNumber;
 use counts::TextByteNumber;
 
 // Octet j of a word.
-fn octet(word: u32, j: usize) -> u8
+fn octet_of(word: u32, j: usize) -> u8
     requires { ⌜ j < 4 ⌝ }
     ensures { λ r. ⌜ r ≡ octetOf word j ⌝ }
 {
     ((word >> (24 - j * 8)) % 256) as u8
 }
 
-// The text byte at a place, and 0 where no whole packet has such a byte.
+// The text byte at a place; 0 if no whole packet has such a byte.
 pub fn text_byte(words: &[u32], offset: usize, at: TextPlace) -> u8
     ensures { λ r. ⌜ r ≡ byteAt (now (words .entry)) (14 - offset) at ⌝ }
 {
@@ -35,11 +35,11 @@ pub fn text_byte(words: &[u32], offset: usize, at: TextPlace) -> u8
         return 0;
     }
     let o = b + 2 + offset;
-    octet(words[p * 4 + o / 4], o % 4)
+    octet_of(words[p * 4 + o / 4], o % 4)
 }
 
-// The place after one: the next packet's byte 0 after a packet's last byte.
-fn advanced(capacity: usize, at: TextPlace) -> TextPlace
+// The next place; after a packet's last byte comes byte 0 of the next packet.
+fn next_place(capacity: usize, at: TextPlace) -> TextPlace
     requires { ⌜ (at .byte .0 < capacity) × (at .packet .0 + 1 < 2 ^ 64) ⌝ }
     ensures { λ r. ⌜ r ≡ nextPlace capacity at ⌝ }
 {
@@ -67,8 +67,8 @@ pub fn start() -> TextPlace
     }
 }
 
-// The end, at a place.
-fn ended(at: TextPlace) -> Stepped
+// The end of the text, at a place.
+fn end_at(at: TextPlace) -> Stepped
     ensures { λ r. ⌜ r ≡ stepped End at ⌝ }
 {
     Stepped {
@@ -77,20 +77,20 @@ fn ended(at: TextPlace) -> Stepped
     }
 }
 
-// The next text byte that is not zero and the place after it, else the end. A place past the text does not move, and an offset of 14 or more leaves no text.
+// The next nonzero text byte and the place after it, or the end. A place past the text does not move. An offset of 14 or more leaves no text.
 pub fn step(words: &[u32], offset: usize, at: TextPlace) -> Stepped
     ensures { λ r. ⌜ r ≡ stepAt (now (words .entry)) (14 - offset) at ⌝ }
 {
     if 14 <= offset {
-        return ended(at);
+        return end_at(at);
     }
     if 14 - offset <= at.byte.0 {
-        return ended(at);
+        return end_at(at);
     }
     let mut place = at;
     while place.packet.0 < words.len() / 4 {
         let x = text_byte(words, offset, place);
-        place = advanced(14 - offset, place);
+        place = next_place(14 - offset, place);
         if x != 0 {
             return Stepped {
                 step: TextStep::Byte(x),
@@ -98,5 +98,5 @@ pub fn step(words: &[u32], offset: usize, at: TextPlace) -> Stepped
             };
         }
     }
-    ended(place)
+    end_at(place)
 }

@@ -1,10 +1,10 @@
-// The packets of a text message: how many a text needs, and the format due of each.
+// The packets of a text message: how many a text needs, and the format of each.
 ghost use mathlib.Core.Path.{_≡_};
 ghost use Rattle.counts.specs.Counts.{packet};
-ghost use Rattle.text.specs.Octets.{needed, due};
+ghost use Rattle.text.specs.Octets.{needed, dueFormat};
 use counts::PacketNumber;
 
-// Packets needed for so many bytes: 1 for empty text, else bytes divided by capacity, rounded up. What fits one packet is not divided.
+// Packets needed for a number of bytes: 1 for empty text, otherwise bytes divided by capacity, rounded up. The first test avoids the division for short text.
 pub fn packets_needed(bytes: usize, capacity: usize) -> PacketNumber
     ensures { λ r. ⌜ r ≡ packet (needed capacity bytes) ⌝ }
 {
@@ -17,9 +17,9 @@ pub fn packets_needed(bytes: usize, capacity: usize) -> PacketNumber
     PacketNumber((bytes - 1) / capacity + 1)
 }
 
-// The format due of packet `p` of `n`.
+// The format of packet `p` of `n`.
 pub fn due_format(n: usize, p: usize) -> u8
-    ensures { λ r. ⌜ r ≡ due n p ⌝ }
+    ensures { λ r. ⌜ r ≡ dueFormat n p ⌝ }
 {
     if n <= 1 {
         return 0;

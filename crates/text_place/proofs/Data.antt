@@ -1,4 +1,4 @@
--- Plain data of one machine value, and the steps of a walk over a `&mut` to it: the borrow is opened and closed, with the cell written out. Closed by the logic's own `opens` and `closes`.
+-- Plain data that is one machine value, and the proof steps that open and close a `&mut` to it.
 use mathlib.Core.Path.{refl, sym, subst}
 use Prim.Native.Nat.{ℕ}
 use mathlib.Core.List.{List, [], _∷_}
@@ -27,13 +27,13 @@ use denote.Enum.Enum.{Plainss, Few}
 use denote.Enum.Declared as Enum
 use denote.Enum.Laws as EL
 
--- what a walk asks of the type: its machine value as lowering writes it, that this is of its MIR type, and that what it owns is had for nothing
+-- what a proof needs of the type: its machine value as lowering gives it, that this has its MIR type, and that owning it costs nothing
 pub record Data (R : RattleType) : Type 2 where
   pub lowers : Lowered R
   pub lawful : {M : Type 1} (𝓤 : URA M) (H : Heap 𝓤) (A : Atoms 𝓤) → Given 𝓤 H A → Lawful 𝓤 H A R
   pub makes : {M : Type 1} (𝓤 : URA M) (H : Heap 𝓤) (A : Atoms 𝓤) → Given 𝓤 H A → Makes 𝓤 H A R (Is R)
 
--- a declared struct and a declared enum are such data, by the names of their modules
+-- a declared struct and a declared enum are such data
 abbrev pub structData : (T : Struct.Declared) (L : SL.Laws T) → Plains (Struct.fields T) → SL.Lowered T → Data (Struct.row T)
 structData T L pl lw = record { lowers = lw; lawful = SL.lawful T L; makes = λ 𝓤 H A W. SL.makes T pl 𝓤 H A }
 
@@ -48,22 +48,22 @@ module _ {R : RattleType} (d : Data R) where
   valOf = d .lowers .lowered
 
   -- x is a value of the type
-  abbrev pub Good : R .Denot → Type 0
-  Good x = Is R x (valOf x ∷ [])
+  abbrev pub IsValue : R .Denot → Type 0
+  IsValue x = Is R x (valOf x ∷ [])
 
-  -- whatever machine values it is related to, it is related to its own
-  pub good : (x : R .Denot) (vs : List Val) → Is R x vs → Good x
-  good x vs is = subst (λ (us : List Val). Is R x us) (d .lowers .val-is x vs is) is
+  -- a value related to some machine values is related to its own
+  pub is-value : (x : R .Denot) (vs : List Val) → Is R x vs → IsValue x
+  is-value x vs is = subst (λ (us : List Val). Is R x us) (d .lowers .val-is x vs is) is
 
   -- its machine value may be stored in a local of its MIR type
-  pub fits : {M : Type 1} (𝓤 : URA M) (H : Heap 𝓤) (A : Atoms 𝓤) → Given 𝓤 H A → (x : R .Denot) → Good x → T (hasTy tyOf (valOf x)) × WT (valOf x)
-  fits 𝓤 H A W x is = subst (λ (τs : List Ty). Typed τs (valOf x ∷ [])) (d .lowers .layout-is) (d .lawful 𝓤 H A W .typed x (valOf x ∷ []) is) .0
+  pub storable : {M : Type 1} (𝓤 : URA M) (H : Heap 𝓤) (A : Atoms 𝓤) → Given 𝓤 H A → (x : R .Denot) → IsValue x → T (hasTy tyOf (valOf x)) × WT (valOf x)
+  storable 𝓤 H A W x is = subst (λ (τs : List Ty). Typed τs (valOf x ∷ [])) (d .lowers .layout-is) (d .lawful 𝓤 H A W .typed x (valOf x ∷ []) is) .0
 
--- ---- a `&mut` to it, at (b, o), under the ghost name γ
+-- ---- a `&mut` to it, at (b, o), with ghost name γ
 module _ {M : Type 1} {𝓤 : URA M} {H : Heap 𝓤} {A : Atoms 𝓤} {K : Type 0} {W : Given 𝓤 H A} {Γ : List (Item 𝓤)} {G : Goal 𝓤 H} {R : RattleType} where
   -- opened: the cell holds the machine value of h
   pub opens-data : K → Soaks G → (d : Data R) → {κ : Lft} {q : Share} {γ : GName} (h : R .Denot) (b o : ℕ)
-      → (Good d h → Seq K W (‵ (fat fullShare (rawTy (tyOf d)) b o (valOf d h)) ∷ ‵ (fobor κ q (Body (mem R) b o γ)) ∷ ‵ (fobs γ (R .coded .code h)) ∷ ‵ (fauth γ (R .coded .code h)) ∷ Γ) G)
+      → (IsValue d h → Seq K W (‵ (fat fullShare (rawTy (tyOf d)) b o (valOf d h)) ∷ ‵ (fobor κ q (Body (mem R) b o γ)) ∷ ‵ (fobs γ (R .coded .code h)) ∷ ‵ (fauth γ (R .coded .code h)) ∷ Γ) G)
       → Seq K W (‵ (fobs γ (R .coded .code h)) ∷ ‵ (fbor κ (Body (mem R) b o γ)) ∷ ‵ (flft κ q) ∷ Γ) G
   opens-data t z d h b o k =
       opens t z R b o (λ vs. spelt t R (Is R) (shows 𝓤 H A R) (λ x. valOf d x ∷ []) (d .lowers .val-is) fullShare h vs b o $
@@ -71,7 +71,7 @@ module _ {M : Type 1} {𝓤 : URA M} {H : Heap 𝓤} {A : Atoms 𝓤} {K : Type 
       move t (1 ∷ []) $ peeks t R (Is R) (shows 𝓤 H A R) h (valOf d h ∷ []) (λ is. drop t $ k is))
 
   -- closed at h′, whose machine value the cell holds now
-  pub closes-data : K → Soaks G → (d : Data R) → {κ : Lft} {q : Share} {u v : Gv} {γ : GName} (h′ : R .Denot) → Good d h′ → (b o : ℕ)
+  pub closes-data : K → Soaks G → (d : Data R) → {κ : Lft} {q : Share} {u v : Gv} {γ : GName} (h′ : R .Denot) → IsValue d h′ → (b o : ℕ)
       → Step K W (‵ (fobs γ (R .coded .code h′)) ∷ ‵ (fbor κ (Body (mem R) b o γ)) ∷ ‵ (flft κ q) ∷ Γ) G
       (‵ (fat fullShare (rawTy (tyOf d)) b o (valOf d h′)) ∷ ‵ (fobor κ q (Body (mem R) b o γ)) ∷ ‵ (fobs γ u) ∷ ‵ (fauth γ v) ∷ Γ) G
   closes-data t z d h′ is b o = step (λ s.

@@ -1,4 +1,4 @@
--- Two slices, lent from the start: case 9 of document 01, whose text has a zero inside, and the block name of its listing. Closed by computation.
+-- Two examples from the start: case 9 of document 01, whose text has a zero inside, and the block name of its listing. Proved by computation.
 use mathlib.Core.Path.{_≡_, refl}
 use mathlib.Core.List.{[], _∷_}
 use Rattle.laws.specs.Lists.{tabulate}

@@ -1,4 +1,4 @@
--- One place lent again and again gives the bytes of the text, then the end, every time. Closed by crate `text`'s laws, which hold of any capacity, at 13 and 14.
+-- One place lent again and again gives the bytes of the text, then the end every time. From the laws of crate `text`, for capacity 13 and 14.
 use Prim.Native.Nat.{ℕ, zero, suc, _+_, _*_, _/_, _<_, _≤_}
 use mathlib.Core.Path.{_≡_, refl, sym, ap, _∙_}
 use mathlib.Core.Logic.{_⊎_, inl, inr, ⊎-elim}
@@ -49,23 +49,23 @@ module _ (ws : List ℕ) where
   end-answers zero at e = refl
   end-answers (suc k) at e = rw e (ap (λ (l : List TextStep). End ∷ l) (end-answers k at e))
 
-  -- AFTER ANY END, wherever the place was, every call says end and leaves the place
+  -- AFTER ANY END, wherever the place was, every call answers the end and leaves the place as it is
   pub end-for-good : (at : TextPlace) → nextByte ws at .step ≡ End → (k : ℕ)
       → (answers k ws (nextByte ws at .place) ≡ replicate k End) × (leftAfter k ws (nextByte ws at .place) ≡ nextByte ws at .place)
   end-for-good at t k =
       let e = end-stays ws (capacityHere ws) at t in
       (end-answers k (nextByte ws at .place) e, stays ws (capacityHere ws) k (nextByte ws at .place) e)
 
-  -- WITHIN THE TEXT, a call that says end leaves the place at packet count, byte 0
+  -- INSIDE THE TEXT, a call that answers the end leaves the place at packet count, byte 0
   pub end-here : (at : TextPlace) → at .packet .0 < length ws / 4 → at .byte .0 < capacityHere ws → nextByte ws at .step ≡ End → nextByte ws at ≡ stepped End (endPlace ws)
   end-here at hp hb t = end-within ws (capacityHere ws) at hp hb t
 
   -- ---- from the start
-  -- THE BYTES OF THE TEXT, one a call, and then the end, at packet count, byte 0
+  -- THE BYTES OF THE TEXT, one in each call, then the end, at packet count, byte 0
   pub lent-all : HandsOut ws (capacityHere ws) startPlace (textHere ws)
   lent-all = hands-all ws (capacityHere ws) (positive ws)
 
-  -- the same of the answers' bytes up to the end, however many calls are made past it
+  -- the bytes of the answers up to the end, for any number of further calls
   pub lent-bytes : (n : ℕ) → length ws / 4 * capacityHere ws ≤ n → handed n ws (capacityHere ws) startPlace ≡ textHere ws
   lent-bytes n h = handed-all ws (capacityHere ws) (positive ws) n h
 
@@ -75,7 +75,7 @@ module _ (ws : List ℕ) where
   answers-from (none e) (suc k) = rw (zero-add (suc k), e) (ap (λ (l : List TextStep). End ∷ l) (end-answers k (endPlace ws) (past-packets (endPlace ws) (omega arith))))
   answers-from (more {x = x} {xs = xs} e r) k = rw (suc-add (length xs) k, e) (ap (λ (l : List TextStep). Byte x ∷ l) (answers-from r k))
 
-  -- THE ANSWERS: the bytes of the text, and the end as often as one asks
+  -- THE ANSWERS: the bytes of the text, then the end any number of times
   pub lent-answers : (k : ℕ) → answers (length (textHere ws) + k) ws startPlace ≡ map Byte (textHere ws) ++ replicate k End
   lent-answers k = answers-from lent-all k
 
@@ -84,12 +84,12 @@ module _ (ws : List ℕ) where
   one-more zero at = refl
   one-more (suc n) at = one-more n (nextByte ws at .place)
 
-  -- THE PLACE: from the first end on, packet count, byte 0
+  -- THE PLACE: packet count, byte 0, from the first end on
   pub lent-place : (k : ℕ) → length (textHere ws) < k → leftAfter k ws startPlace ≡ endPlace ws
   lent-place zero h = absurd (omega arith)
   lent-place (suc k) h = one-more k startPlace ∙ ap (λ (s : Stepped). s .place) (end-after lent-all k (omega arith))
 
-  -- ---- THE TEXT LENT IS THE TEXT READ, of the three kinds that have one
+  -- ---- THE TEXT LENT IS THE TEXT READ, for the three kinds that have text
   pub lent-read : (k : Kind) → statusOf (headAt ws 0) ≡ layout k .status → 0 < capacityOf k → textHere ws ≡ textAt k ws
   unfolding layout offsetHere
   lent-read K.EndpointDiscovery e h = absurd (omega arith)

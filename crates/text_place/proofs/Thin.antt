@@ -1,6 +1,6 @@
--- A THIN STEP over a lent place, whatever its types are: its code as MIR, the contract of the by-value core that it calls, and what its own contract must be. A function of this shape, of any crate, is one by computation.
+-- A THIN STEP over a lent place, for any types: its code as MIR, the contract of the by-value core that it calls, and its own contract. Any function of this form is one by computation:
 --     fn f(words: &[u32], place: &mut P) -> E { let s = core(words, *place); *place = s.place; s.answer }
--- Definitions alone: `Walk` proves that a thin step meets each such contract.
+-- Definitions only: `Walk` proves that a thin step meets its contract.
 use mathlib.Core.Path.{_≡_}
 use Prim.Native.Nat.{ℕ}
 use mathlib.Core.List.{List, [], _∷_}
@@ -23,27 +23,27 @@ use denote.Builtin.{u32}
 use denote.Signature.{plain, shrSliceOf, mutRefTo}
 use denote.Triple.Entry.{Args}
 use denote.Triple.Clauses.{Ended, Clauses, atExit}
-use Rattle.text_place.proofs.Data.{Data, tyOf, valOf, Good}
+use Rattle.text_place.proofs.Data.{Data, tyOf, valOf, IsValue}
 
--- ---- the types: an answer E, a place P, and a struct S of the two, in this order
-pub record Pair (E P S : RattleType) (e : Data E) (p : Data P) : Type 2 where
+-- ---- the types: an answer E, a place P, and a struct S of both, in this order
+pub record AnswerAndPlace (E P S : RattleType) (e : Data E) (p : Data P) : Type 2 where
   pub answer : S .Denot → E .Denot
   pub place : S .Denot → P .Denot
   pub name : Sym
   pub layout-is : S .mir ≡ tyStruct name (tcons (tyOf e) (tcons (tyOf p) tnil)) ∷ []
   pub val-is : Tells S (Is S) (λ r. vstruct (vcons (valOf e (answer r)) (vcons (valOf p (place r)) vnil)) ∷ [])
   pub lawful : {M : Type 1} (𝓤 : URA M) (H : Heap 𝓤) (A : Atoms 𝓤) → Given 𝓤 H A → Lawful 𝓤 H A S
-  pub has-answer : (r : S .Denot) (vs : List Val) → Is S r vs → Good e (answer r)
-  pub has-place : (r : S .Denot) (vs : List Val) → Is S r vs → Good p (place r)
+  pub has-answer : (r : S .Denot) (vs : List Val) → Is S r vs → IsValue e (answer r)
+  pub has-place : (r : S .Denot) (vs : List Val) → Is S r vs → IsValue p (place r)
 
--- ---- the core: it takes the words and a place, and gives the struct
+-- ---- the core: it takes the words and a place, and returns the struct
 abbrev pub coreOf : RattleType → RattleType → Ended
 coreOf P S = record {
   signature = record { lifetimes = 1; outlives = []; params = shrSliceOf (0 ∷ []) tt (plain (λ _. u32)) ∷ plain (λ _. P) ∷ []; result = plain (λ _. S) };
   kept = (yes, (yes, tt));
 }
 
--- its answer is `step` of the words and the place
+-- its result is `step` of the words and the place
 abbrev pub coreSays : {M : Type 1} (𝓤 : URA M) (P S : RattleType) → (List ℕ → P .Denot → S .Denot) → Clauses 𝓤 (coreOf P S)
 coreSays 𝓤 P S step κs a = record { ghost = Unit {0}; requires = λ _. emp 𝓤; ensures = λ _ r end. fact 𝓤 (r ≡ step (now (a .0)) (a .1 .0)) }
 
@@ -54,8 +54,8 @@ thinOf E P = record {
   kept = (yes, (yes, tt));
 }
 
-module _ {E P S : RattleType} {e : Data E} {p : Data P} (b : Pair E P S e p) where
-  -- its contract: what it ensures holds of the answer, and of the place at exit, that `step` gives of the words and the place at entry
+module _ {E P S : RattleType} {e : Data E} {p : Data P} (b : AnswerAndPlace E P S e p) where
+  -- its contract holds if it holds for the answer and the place that `step` gives for the words and the place at entry
   abbrev pub Holds : {M : Type 1} (𝓤 : URA M) → (List ℕ → P .Denot → S .Denot) → Clauses 𝓤 (thinOf E P) → Type 1
   Holds 𝓤 step c =
       (κs : Lfts 2) (a : Args (thinOf E P .signature) κs) (g : c κs a .ghost)

@@ -1,5 +1,5 @@
--- A thin step meets its contract, for any types and contract of `Thin`: a walk of its MIR. All that is known of the core is that it meets its own contract.
--- Closed by `thin-meets`. Assumes nothing.
+-- A thin step meets its contract, for any types and contract of `Thin`: proved along its MIR, from the core's contract alone.
+-- The theorem is `thin-meets`.
 use mathlib.Core.Path.{_≡_, refl, sym, ap, subst}
 use Prim.Native.Nat.{ℕ}
 use mathlib.Core.List.{List, [], _∷_}
@@ -35,10 +35,10 @@ use denote.Triple.Call.{calls-at}
 use denote.Triple.Clauses.{Clauses, closing, ensured, lasts, atExit}
 use denote.Triple.Walked.{Stays, stay-ref, stay-none-slice, walkOf, goes-ref, goes-none-slice, Walks, ends-at, walked, walk-meets}
 use denote.Exit.{yes}
-use Rattle.text_place.proofs.Data.{Data, valOf, Good, fits, opens-data, closes-data}
-use Rattle.text_place.proofs.Thin.{Pair, coreOf, coreSays, thinOf, Holds, pairTy, thin}
+use Rattle.text_place.proofs.Data.{Data, valOf, IsValue, storable, opens-data, closes-data}
+use Rattle.text_place.proofs.Thin.{AnswerAndPlace, coreOf, coreSays, thinOf, Holds, pairTy, thin}
 
--- what is had of the two parameters at exit: the words as they were passed, and the place at its last value
+-- the two parameters at exit: the words as passed, and the place at its last value
 abbrev stayed : (E P : RattleType) → Stays (thinOf E P .signature .params) (thinOf E P .kept)
 stayed E P = (stay-none-slice (0 ∷ []) tt (plain (λ _. u32)) yes, (stay-ref (1 ∷ []) tt (plain (λ _. P)), tt))
 
@@ -46,11 +46,11 @@ stayed E P = (stay-none-slice (0 ∷ []) tt (plain (λ _. u32)) yes, (stay-ref (
 abbrev pub Core : {M : Type 1} (𝓤 : URA M) (H : Heap 𝓤) (A : Atoms 𝓤) (P S : RattleType) → (List ℕ → P .Denot → S .Denot) → Contract 𝓤
 Core 𝓤 H A P S step = tripleOf 𝓤 H A (coreOf P S .signature) (closing 𝓤 H A (coreOf P S) (coreSays 𝓤 P S step))
 
--- a goal P ∗ Q where Q is had for nothing
+-- a goal P ∗ Q where Q holds without resources
 shown : {M : Type 1} {𝓤 : URA M} {H : Heap 𝓤} {A : Atoms 𝓤} {K : Type 0} {W : Given 𝓤 H A} {Γ : List (Item 𝓤)} → K → {P Q : SProp 𝓤} → ent 𝓤 (emp 𝓤) Q → Step K W Γ (prop P) Γ (prop (sep 𝓤 P Q))
 shown {𝓤 = 𝓤} t {P} {Q} q = suffices t P (via 𝓤 (sep 𝓤 (emp 𝓤) P) (emp∗ 𝓤 P) (via 𝓤 (sep 𝓤 Q P) (monoL 𝓤 P q) (comm∗ 𝓤 Q P)))
 
-module _ {E P S : RattleType} {e : Data E} {p : Data P} (b : Pair E P S e p) (step : List ℕ → P .Denot → S .Denot) {M : Type 1} (𝓤 : URA M) (H : Heap 𝓤) (A : Atoms 𝓤) (W : Given 𝓤 H A) (c : Clauses 𝓤 (thinOf E P)) (holds : Holds b 𝓤 step c) where
+module _ {E P S : RattleType} {e : Data E} {p : Data P} (b : AnswerAndPlace E P S e p) (step : List ℕ → P .Denot → S .Denot) {M : Type 1} (𝓤 : URA M) (H : Heap 𝓤) (A : Atoms 𝓤) (W : Given 𝓤 H A) (c : Clauses 𝓤 (thinOf E P)) (holds : Holds b 𝓤 step c) where
   -- the core's result may be stored in _3
   result-fits : (r : S .Denot) (u : Val) → Is S r (u ∷ []) → T (hasTy (pairTy b) u) × WT u
   result-fits r u is = subst (λ (τs : List Ty). Typed τs (u ∷ [])) (b .layout-is) (b .lawful 𝓤 H A W .typed r (u ∷ []) is) .0
@@ -59,9 +59,9 @@ module _ {E P S : RattleType} {e : Data E} {p : Data P} (b : Pair E P S e p) (st
   abbrev passedTo : RefT (List ℕ) → ℕ → ℕ → GName → P .Denot → RefT (List ℕ) × (RefT (P .Denot) × Unit {0})
   passedTo w k o γ h = (w, (record { ptr = (k, o); name = γ; now = h }, tt))
 
-  -- ---- at one call: the words w live for κ and the place for κ′, of which the shares q and q′ are lent; the place lies at (k, o), has the ghost name γ, and is h at entry
+  -- ---- at one call: the words w live for κ and the place for κ′, with shares q and q′ lent; the place is at (k, o), has ghost name γ, and is h at entry
   module _ (κ κ′ : Lft) (bounds : AllOutlive 2 (thinOf E P .signature .outlives) (κ, (κ′, tt))) (q q′ : Share) (w : RefT (List ℕ)) (k o : ℕ) (γ : GName) (h : P .Denot) (ghost : c (κ, (κ′, tt)) (passedTo w k o γ h) .ghost) where
-    -- what the core gives
+    -- the core's result
     abbrev found : S .Denot
     found = step (now w) h
 
@@ -79,15 +79,15 @@ module _ {E P S : RattleType} {e : Data E} {p : Data P} (b : Pair E P S e p) (st
     abbrev Words : Fml
     Words = ShrSlice (named 0) κ u32 .own w (v ∷ [])
 
-    -- what the walk must end in, by the machine value of the answer
+    -- the postcondition, by the machine value of the answer
     abbrev Post : Val → SProp 𝓤
     Post = walkOf 𝓤 H A (thinOf E P) (stayed E P) c .post (((κ, (κ′, tt)), (q, (q′, tt)), bounds, args, vals), ghost)
 
-    -- ---- the call of the core: what it is passed, that what it asks is there, and what it says of its result
+    -- ---- the call of the core: its arguments, its precondition, and what its contract says of the result
     abbrev passed : Core 𝓤 H A P S step .Ghost
     passed = (((κ, tt), (q, tt), tt, (w, (h, tt)), (v ∷ [], (valOf p h ∷ [], tt))), tt)
 
-    asked : Good p h → ent 𝓤 (sep 𝓤 (A .lft κ q) (sem 𝓤 H A Words)) (Core 𝓤 H A P S step .pre passed)
+    asked : IsValue p h → ent 𝓤 (sep 𝓤 (A .lft κ q) (sem 𝓤 H A Words)) (Core 𝓤 H A P S step .pre passed)
     asked g =
         qed W (‵ (flft κ q) ∷ ‵ Words ∷ []) ∵ nothing ! $ owned ! P (Is P) (p .makes 𝓤 H A W) h _ g $ fjoin ! $ move ! (2 ∷ 0 ∷ []) $ fjoin ! $
         nothing ! $ move ! (2 ∷ 0 ∷ []) $ join ! $ join ! $ frame ! $ done !
@@ -98,8 +98,8 @@ module _ {E P S : RattleType} {e : Data E} {p : Data P} (b : Pair E P S e p) (st
     said : (r : S .Denot) → ent 𝓤 (Said r) (fact 𝓤 (r ≡ found))
     said r = exE 𝓤 _ (λ ws. snd∗ 𝓤 (sem 𝓤 H A (lasts (coreOf P S) (κ, tt) (w, (h, tt)) ws)) (fact 𝓤 (r ≡ found)))
 
-    -- ---- the end of the walk: the closed borrow, its token, the words' token and the words are the contract's exit, where the result r is the one found
-    exits : (r : S .Denot) → r ≡ found → Good e (b .answer r)
+    -- ---- the exit: the closed borrow, its token, the words' token and the words give the contract's exit, for the result r of the core
+    exits : (r : S .Denot) → r ≡ found → IsValue e (b .answer r)
         → ent 𝓤 (⋆ 𝓤 H A (‵ (fobs γ (P .coded .code (b .place r))) ∷ ‵ (fbor κ′ (Body (mem P) k o γ)) ∷ ‵ (flft κ′ q′) ∷ (‵ (flft κ q) ⊛ ‵ ftrue) ∷ ‵ Words ∷ [])) (Post (valOf e (b .answer r)))
     exits r eq is =
         qed W (‵ (fobs γ (P .coded .code (b .place r))) ∷ ‵ (fbor κ′ (Body (mem P) k o γ)) ∷ ‵ (flft κ′ q′) ∷ (‵ (flft κ q) ⊛ ‵ ftrue) ∷ ‵ Words ∷ []) ∵
@@ -113,7 +113,7 @@ module _ {E P S : RattleType} {e : Data E} {p : Data P} (b : Pair E P S e p) (st
         -- the answer
         owned ! E (Is E) (e .makes 𝓤 H A W) (b .answer r) _ is $ move ! (1 ∷ 0 ∷ []) $ done !
 
-    -- ---- the walk. A line in brackets is the context there, from position 0 on: `obs` and `auth` say what the place is under γ, and `…` is nothing, or the right to free the local before it
+    -- ---- the proof along the code. A line in brackets is the context there, from position 0 on: `obs` and `auth` say what the place is under γ; `…` is nothing, or the right to free the local before it
     module _ (C : Calls 𝓤 H) (Λ : Loops 𝓤 H) (fm : FmC 𝓤 H (W .laws) C) (core : Name) (known : Triple 𝓤 (C core) (Core 𝓤 H A P S step)) where
       walk : Is (ShrSlice (named 0) κ u32) w (v ∷ []) → ent 𝓤 (onEntry 𝓤 H A (thinOf E P .signature) (κ, (κ′, tt)) (q, (q′, tt)) args vals) (WpFn 𝓤 H C Λ (thin b core) (v ∷ vptr k o ∷ []) Post)
       walk ok =
@@ -128,8 +128,8 @@ module _ {E P S : RattleType} {e : Data E} {p : Data P} (b : Pair E P S e p) (st
           opens-data ! tt p h k o (λ g.
           -- [the place's cell; the open borrow; obs; auth; …; the words' token; …; the words; the words; _4; …; _3; …; _2; …; _1; …; _0; …]
           -- _4 = *_2
-          assigns ! (of-opd ! (load ! (from ! (hop ! (look ! 13 refl) (stop !))) (look-raw ! 0 refl))) (from ! (stop !)) (init ! 9 refl (fits p 𝓤 H A W h g)) $
-          -- _3 = core(_1, _4): it returns some u, of which it says that it is the machine value of `found`
+          assigns ! (of-opd ! (load ! (from ! (hop ! (look ! 13 refl) (stop !))) (look-raw ! 0 refl))) (from ! (stop !)) (init ! 9 refl (storable p 𝓤 H A W h g)) $
+          -- _3 = core(_1, _4): it returns some u, and its contract says that u is the machine value of `found`
           move ! (5 ∷ 7 ∷ []) $ use2 W (raw (Core 𝓤 H A P S step .pre passed)) (asked g) $
           calls-at ! fm (Core 𝓤 H A P S step) known passed (and-then ! (load ! (from ! (stop !)) (look ! 14 refl)) (and-then ! (load ! (from ! (stop !)) (look ! 8 refl)) (no-more !))) (λ u.
           use1 W (later (some (λ (r : S .Denot). ((‵ (flft κ q) ⊛ ‵ ftrue) ⊛ ‵ (S .own r (u ∷ []))) ⊛ raw (Said r)))) (id⊢ 𝓤 _) $ await ! tt $ pick ! (λ r.
@@ -138,9 +138,9 @@ module _ {E P S : RattleType} {e : Data E} {p : Data P} (b : Pair E P S e p) (st
           drop ! $ move ! (1 ∷ []) $
           -- [the place's cell; the words' token; the open borrow; obs; auth; …; …; the words; _4; …; _3; …; _2; …; _1; …; _0; …]
           -- *_2 = _3.1
-          assigns ! (of-opd ! (load ! (from ! (fld ! refl (stop !))) (look-in ! 10 (sub ! 1 refl (whole !))))) (from ! (hop ! (look ! 12 refl) (stop !))) (store-raw ! 0 refl (fits p 𝓤 H A W (b .place r) (b .has-place r (u ∷ []) is))) $
+          assigns ! (of-opd ! (load ! (from ! (fld ! refl (stop !))) (look-in ! 10 (sub ! 1 refl (whole !))))) (from ! (hop ! (look ! 12 refl) (stop !))) (store-raw ! 0 refl (storable p 𝓤 H A W (b .place r) (b .has-place r (u ∷ []) is))) $
           -- _0 = _3.0
-          assigns ! (of-opd ! (load ! (from ! (fld ! refl (stop !))) (look-in ! 10 (sub ! 0 refl (whole !))))) (from ! (stop !)) (init ! 16 refl (fits e 𝓤 H A W (b .answer r) (b .has-answer r (u ∷ []) is))) $
+          assigns ! (of-opd ! (load ! (from ! (fld ! refl (stop !))) (look-in ! 10 (sub ! 0 refl (whole !))))) (from ! (stop !)) (init ! 16 refl (storable e 𝓤 H A W (b .answer r) (b .has-answer r (u ∷ []) is))) $
           -- the borrow is closed at the new place
           move ! (0 ∷ 2 ∷ 3 ∷ 4 ∷ []) $ closes-data ! tt p (b .place r) (b .has-place r (u ∷ []) is) k o $
           -- [obs; the borrow; the place's token; the words' token; …; …; the words; _4; …; _3; …; _2; …; _1; …; _0; …]
@@ -149,7 +149,7 @@ module _ {E P S : RattleType} {e : Data E} {p : Data P} (b : Pair E P S e p) (st
           move ! (15 ∷ 16 ∷ []) $ free1 ! $ move ! (13 ∷ 14 ∷ []) $ free1 ! $ move ! (11 ∷ 12 ∷ []) $ free1 ! $ move ! (9 ∷ 10 ∷ []) $ free1 ! $ move ! (7 ∷ 8 ∷ []) $ free1 ! $ free0 ! $
           keep ! (0 ∷ 1 ∷ 2 ∷ 3 ∷ 6 ∷ []) $ by ! (exits r eq (b .has-answer r (u ∷ []) is))))))))))))
 
-  -- ---- the walk at every call, and the contract
+  -- ---- the proof at every call, and the contract
   module _ (C : Calls 𝓤 H) (Λ : Loops 𝓤 H) (fm : FmC 𝓤 H (W .laws) C) (core : Name) (known : Triple 𝓤 (C core) (Core 𝓤 H A P S step)) where
     walks : Walks 𝓤 H A (thinOf E P) (stayed E P) (WpFn 𝓤 H C Λ (thin b core)) c
     walks = walked 𝓤 H A (thinOf E P) (stayed E P) c (WpFn 𝓤 H C Λ (thin b core)) (λ κs. (slice-vals, (ptr-vals, tt))) (λ κs. (shr-slice-tells (named 0) (κs .0) u32, (mut-tells (named 1) (κs .1 .0) P, tt)))

@@ -1,4 +1,4 @@
--- ONE TEXT PLACE LENT AGAIN AND AGAIN: what the calls answer, and where they leave the place.
+-- ONE TEXT PLACE LENT AGAIN AND AGAIN: the answers of the calls, and where they leave the place.
 use Prim.Native.Nat.{ℕ, zero, suc, _-_, _/_}
 use mathlib.Core.List.{List, [], _∷_}
 use lib.ListN.{length}
@@ -8,11 +8,11 @@ use Rattle.text.specs.declared.TextPlace.{TextPlace}
 use Rattle.text.specs.declared.TextStep.{TextStep}
 use Rattle.standard.specs.Place.{offsetHere, nextByte}
 
--- the text bytes of a packet: 13 where the first word's status is 0x12, else 14
+-- the text bytes in a packet: 13 if the status of the first word is 0x12, otherwise 14
 abbrev pub capacityHere : List ℕ → ℕ
 capacityHere ws = 14 - offsetHere ws
 
--- the text of the whole packets: every zero byte dropped, and the others in order
+-- the text of the whole packets: all nonzero text bytes, in order
 abbrev pub textHere : List ℕ → List ℕ
 textHere ws = textOf ws (capacityHere ws) (length ws / 4)
 

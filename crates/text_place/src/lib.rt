@@ -5,7 +5,7 @@ use reading::by_byte;
 use text::TextPlace;
 use text::TextStep;
 
-// The next byte that is not zero, or the end. The place is left where the by-value step leads.
+// The next nonzero byte, or the end. The place moves as in the by-value step.
 pub fn next_byte(words: &[u32], place: &mut TextPlace) -> TextStep
     ensures { λ r. ⌜ (r ≡ nextByte (now (words .entry)) (now (place .entry)) .step)
         × (now (place .exit) ≡ nextByte (now (words .entry)) (now (place .entry)) .place) ⌝ }

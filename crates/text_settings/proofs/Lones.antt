@@ -11,9 +11,9 @@ use borrow.Author.Tests.{lt-leb, ltb-false, eq-eqb}
 use Rattle.laws.specs.Pick.{pick, differ}
 use Rattle.laws.proofs.Pick.{true-false, passed, differ-false}
 use Rattle.counts.specs.Counts.{packet}
-use Rattle.text.specs.Octets.{due}
-use Rattle.fast_text.specs.Fast.{isGood, plainWord, plainPacket}
-use Rattle.fast_text.proofs.Plains.{plain-good, plain-later}
+use Rattle.text.specs.Octets.{dueFormat}
+use Rattle.text_check.specs.FastCheck.{isGood, asciiText, asciiPacket}
+use Rattle.text_check.proofs.AsciiPackets.{ascii-good, ascii-later}
 use Rattle.kinds.specs.declared.kind.Kind.{Kind}
 use Rattle.kinds.specs.declared.kind.Kind.the-variants as K
 use Rattle.kinds.specs.Layout.{layout, capacityOf}
@@ -48,21 +48,21 @@ module _ (ws : List ℕ) (offset : ℕ) (long : 4 ≤ length ws) where
   like-itself = rw (lt-leb (packetsOf ws) 0 (omega arith)) (eq-eqb (headBits (headAt ws 0) offset) (headBits (headAt ws 0) offset) refl)
 
   one-headed : typeOf (headAt ws 0) ≡ streamType → formatOf (headAt ws 0) ≡ 0 → 1 ≡ headedPackets ws offset
-  unfolding endsAt due
+  unfolding endsAt dueFormat
   one-headed t f = same-type ws offset 1 t (sym (turn-ends ws offset 0 (lit≤ tt) like-itself (rw f refl) ∙ rw f refl))
 
-  front-plain : plainPacket ws offset 0 ≡ true → plainPacket (take 4 ws) offset 0 ≡ true
-  unfolding plainPacket plainWord
+  front-plain : asciiPacket ws offset 0 ≡ true → asciiPacket (take 4 ws) offset 0 ≡ true
+  unfolding asciiPacket asciiText
   front-plain e =
       let l = length-take-le 4 ws long in
       let a : leb (packetsOf ws) 0 ≡ false = lt-leb (packetsOf ws) 0 (omega arith) in
       let b : leb (packetsOf (take 4 ws)) 0 ≡ false = lt-leb (packetsOf (take 4 ws)) 0 (omega (arith, l)) in
       rw (b, getD-take 4 ws 0 0 (lit≤ tt), getD-take 4 ws 1 0 (lit≤ tt), getD-take 4 ws 2 0 (lit≤ tt), getD-take 4 ws 3 0 (lit≤ tt)) (rw a at e)
 
-  one-seen : plainPacket ws offset 0 ≡ true → headedPackets ws offset ≡ 1 → 1 ≡ seenText ws offset
+  one-seen : asciiPacket ws offset 0 ≡ true → headedPackets ws offset ≡ 1 → 1 ≡ seenText ws offset
   one-seen e h =
       let l = length-take-le 4 ws long in
-      seen-good ws offset 1 h (ap isGood (plain-good (take 4 ws) offset (packetsOf (take 4 ws)) (λ p i. let z : p ≡ 0 = omega (arith, l, i) in rw z (front-plain e))))
+      seen-good ws offset 1 h (ap isGood (ascii-good (take 4 ws) offset (packetsOf (take 4 ws)) (λ p i. let z : p ≡ 0 = omega (arith, l, i) in rw z (front-plain e))))
 
 -- only a kind with text has room for it in a packet
 one-text : (k : Kind) (ws : List ℕ) → 0 < capacityOf k → ((offset : ℕ) → 1 ≡ seenText ws offset) → textPackets k ws ≡ 1
@@ -80,10 +80,10 @@ pub lone-target : (k : Kind) (ws : List ℕ) (head : ℕ) → LoneHead k head �
 unfolding loneOf
 lone-target k ws head own e =
     let other = differ (upperOf (getD ws 0 0)) (upperOf head) in
-    let a = passed (ltb (length ws) 4) false (pick other false (plainPacket ws 0 0)) true (λ q. true-false (sym q)) e in
-    let b = passed other false (plainPacket ws 0 0) true (λ q. true-false (sym q)) (a .1) in
+    let a = passed (ltb (length ws) 4) false (pick other false (asciiPacket ws 0 0)) true (λ q. true-false (sym q)) e in
+    let b = passed other false (asciiPacket ws 0 0) true (λ q. true-false (sym q)) (a .1) in
     let long = ltb-false _ _ (a .0) in
     let upper : upperOf (getD ws 0 0) ≡ 0xF000 + layout k .status = differ-false _ _ (b .0) ∙ own .upper in
     let small = status-small k in
-    let seen : (offset : ℕ) → 1 ≡ seenText ws offset = λ offset. one-seen ws offset long (plain-later ws offset 0 (b .1)) (sym (one-headed ws offset long (whole-type _ _ upper small) (whole-format _ _ upper small))) in
+    let seen : (offset : ℕ) → 1 ≡ seenText ws offset = λ offset. one-seen ws offset long (ascii-later ws offset 0 (b .1)) (sym (one-headed ws offset long (whole-type _ _ upper small) (whole-format _ _ upper small))) in
     seen-target k ws 1 (whole-status _ _ upper small) (one-text k ws (own .text) seen) (lit≤ tt)

@@ -17,7 +17,7 @@ use Rattle.kinds.specs.declared.refusal.Refusal.the-variants.{TooManyPackets, N
 use Rattle.records.specs.declared.answers.Answer.the-variants as A
 use Rattle.standard.specs.Heads.{packetsOf}
 use Rattle.standard.specs.Walk.{walkOf}
-use Rattle.standard.specs.Words.{left, unchanged}
+use Rattle.standard.specs.Words.{outcome, unchanged}
 use Rattle.buffer.specs.Filling.{putEach, fillText}
 use Rattle.settings.specs.declared.target.Target.the-variants as T
 use Rattle.settings.specs.Target.{targetOf}
@@ -60,7 +60,7 @@ module _ (status offset head : ℕ) (text ws : List ℕ) where
     unfolding textOn
     text-planless h = settled-own _ ws e ∙ rw h
 
-    pub text-done : {m : PacketNumber} → planOf text (14 - offset) (packetsOf ws) ≡ P.Needs m → textOn status offset head text ws ≡ left A.Done (fillText text offset head (m .0) ws)
+    pub text-done : {m : PacketNumber} → planOf text (14 - offset) (packetsOf ws) ≡ P.Needs m → textOn status offset head text ws ≡ outcome A.Done (fillText text offset head (m .0) ws)
     unfolding textOn
     text-done h = settled-own _ ws e ∙ rw h
 
@@ -75,6 +75,6 @@ module _ (status at span v : ℕ) (ws : List ℕ) where
     unfolding eachOn
     each-large h = settled-own _ ws e ∙ rw (le-ltb v (2 ^ span) (leb-true (2 ^ span) v h))
 
-    pub each-done : leb (2 ^ span) v ≡ false → eachOn status at span v ws ≡ left A.Done (putEach (n .0) at span v ws)
+    pub each-done : leb (2 ^ span) v ≡ false → eachOn status at span v ws ≡ outcome A.Done (putEach (n .0) at span v ws)
     unfolding eachOn
     each-done h = settled-own _ ws e ∙ rw (lt-ltb v (2 ^ span) (leb-false (2 ^ span) v h))

@@ -10,7 +10,7 @@ use borrow.Author.Tests.{ltb-true, ltb-false, leb-true}
 use Rattle.laws.specs.Pick.{pick, both}
 use Rattle.laws.specs.Bits.{putField}
 use Rattle.laws.proofs.Pick.{split, both-left}
-use Rattle.slots.specs.Slots.{Slot, put, putAll, fits, those, within}
+use Rattle.slots.specs.Slots.{Slot, put, putAll, fits, those, bitsWithin}
 use Rattle.utf8.specs.Utf8.{firstBad}
 use Rattle.text.specs.Octets.{needed}
 use Rattle.kinds.specs.declared.kind.Kind.{Kind}
@@ -23,7 +23,7 @@ use Rattle.records.specs.declared.answers.Answer.the-variants as A
 use Rattle.standard.specs.Heads.{packetsOf}
 use Rattle.standard.specs.Reading.{isBad}
 use Rattle.standard.specs.Walk.{walkOf}
-use Rattle.standard.specs.Words.{left, missing, answerTo, actIn, putWord, headOf, setOn}
+use Rattle.standard.specs.Words.{outcome, missing, answerTo, actIn, putWord, headOf, setOn}
 use Rattle.buffer.specs.Filling.{putEach, formatted, fillText}
 use Rattle.buffer.proofs.Puts.{each-put, text-filled}
 use Rattle.settings.specs.declared.target.Target.{Target}
@@ -95,7 +95,7 @@ module _ (k : Kind) (t : Text) (offset head : ℕ) (bytes ws : List ℕ) (f : te
         o .set ∙ split (isBad (firstBad bytes)) (λ x. rw (a, x))
         (λ x. split (ltb 64 (needed (14 - offset) (length bytes))) (λ y. rw (a, x, y))
         (λ y. split (ltb (packetsOf ws) (needed (14 - offset) (length bytes))) (λ z. rw (a, x, y, z))
-        (λ z. rw (a, x, y, z) (ap (left A.Done) (text-act (layout k) t offset bytes bodied head n ws itself small (ltb-false 64 _ y) h)))))
+        (λ z. rw (a, x, y, z) (ap (outcome A.Done) (text-act (layout k) t offset bytes bodied head n ws itself small (ltb-false 64 _ y) h)))))
 
     pub set-text : setOn (Setting.text t bytes) ws ≡ textOn (layout k .status) offset head bytes ws
     unfolding textOn
@@ -121,8 +121,8 @@ fits-one s at span v e = rw e (alone (ltb v (2 ^ span)))
     alone true = refl
     alone false = refl
 
-narrow-one : (s : Setting) (at span : ℕ) → within 32 (one s 0 at span) ≡ true → at + span ≤ 32
-unfolding within
+narrow-one : (s : Setting) (at span : ℕ) → bitsWithin 32 (one s 0 at span) ≡ true → at + span ≤ 32
+unfolding bitsWithin
 narrow-one s at span e = leb-true _ _ (both-left _ _ e)
 
 module _ (k : Kind) (s : Setting) (t : Text) (from at span v : ℕ) (f : facts k s ≡ plain (texts t from) (one s 0 at span)) (e : partOf (fieldIn s) (valueIn s) 0 ≡ v) (ws : List ℕ) (other : same (fieldIn s) (Field.text t) ≡ false) where
@@ -135,7 +135,7 @@ module _ (k : Kind) (s : Setting) (t : Text) (from at span v : ℕ) (f : facts k
   own-each : (n : ℕ) → Own k n s ws → setOn s ws ≡ fitted (ltb v (2 ^ span)) (putEach n at span v ws) ws
   own-each n o =
       let a = answer-is k s (texts t from) (one s 0 at span) f ws n o ∙ ap (λ (b : Bool). pick (not b) (A.Refused NumberTooLarge) A.Done) (fits-one s at span v e) in
-      o .set ∙ split (ltb v (2 ^ span)) (λ x. rw (a, x) (ap (left A.Done) (each-act n (o .most) (ltb-true _ _ x)))) (λ x. rw (a, x))
+      o .set ∙ split (ltb v (2 ^ span)) (λ x. rw (a, x) (ap (outcome A.Done) (each-act n (o .most) (ltb-true _ _ x)))) (λ x. rw (a, x))
 
   pub set-each : setOn s ws ≡ eachOn (layout k .status) at span v ws
   unfolding eachOn

@@ -10,7 +10,7 @@ use Rattle.laws.specs.Bits.{fieldOf}
 use Rattle.counts.specs.Counts.{packet}
 use Rattle.utf8.specs.Utf8.{firstBad}
 use Rattle.text.specs.Octets.{needed}
-use Rattle.fast_text.specs.Fast.{plainPacket}
+use Rattle.text_check.specs.FastCheck.{asciiPacket}
 use Rattle.kinds.specs.declared.kind.Kind.{Kind}
 use Rattle.kinds.specs.Layout.{layout, capacityOf}
 use Rattle.kinds.specs.declared.refusal.Refusal.the-variants.{TooManyPackets, NotUtf8, NoRoom}
@@ -18,7 +18,7 @@ use Rattle.records.specs.declared.answers.Answer.the-variants as A
 use Rattle.standard.specs.Heads.{headWord, packetsOf}
 use Rattle.standard.specs.Reading.{isBad}
 use Rattle.standard.specs.Walk.{walkOf}
-use Rattle.standard.specs.Words.{Left, left, unchanged}
+use Rattle.standard.specs.Words.{Outcome, outcome, unchanged}
 use Rattle.buffer.specs.Filling.{putEach, fillText}
 use Rattle.settings.specs.Target.{targetOf, settled}
 use Rattle.settings.specs.Fixed.{fitted}
@@ -37,7 +37,7 @@ pub record LoneHead (k : Kind) (head : ℕ) : Type 0 where
 -- the first packet has the upper half of a head, and all of its text is plain
 unfoldable pub loneOf : List ℕ → ℕ → Bool
 loneOf ws head =
-    pick (ltb (length ws) 4) false (pick (differ (upperOf (getD ws 0 0)) (upperOf head)) false (plainPacket ws 0 0))
+    pick (ltb (length ws) 4) false (pick (differ (upperOf (getD ws 0 0)) (upperOf head)) false (asciiPacket ws 0 0))
 
 -- refusals 3 and 14 by the packets needed and the whole packets of the buffer
 unfoldable pub roomOf : ℕ → ℕ → Plan
@@ -49,17 +49,17 @@ unfoldable pub planOf : List ℕ → ℕ → ℕ → Plan
 planOf text cap room = pick (isBad (firstBad text)) (P.Refused NotUtf8) (roomOf (needed cap (length text)) room)
 
 -- what a plan leaves: nothing changed where it is refused, else by the packets needed
-abbrev pub carried : Plan → (ℕ → List ℕ) → List ℕ → Left
-carried (P.Needs n) act ws = left A.Done (act (n .0))
+abbrev pub carried : Plan → (ℕ → List ℕ) → List ℕ → Outcome
+carried (P.Needs n) act ws = outcome A.Done (act (n .0))
 carried (P.Refused r) act ws = unchanged r ws
 
 -- text in the packets of the kind with this status, from octet 2 + offset of each on, with one head but for the format
-unfoldable pub textOn : ℕ → ℕ → ℕ → List ℕ → List ℕ → Left
+unfoldable pub textOn : ℕ → ℕ → ℕ → List ℕ → List ℕ → Outcome
 textOn status offset head text ws =
     settled (targetOf status (walkOf ws 0)) (λ m. carried (planOf text (14 - offset) (packetsOf ws)) (λ n. fillText text offset head n ws) ws) ws
 
 -- a number in the head of each packet of the message, and of none after
-unfoldable pub eachOn : ℕ → ℕ → ℕ → ℕ → List ℕ → Left
+unfoldable pub eachOn : ℕ → ℕ → ℕ → ℕ → List ℕ → Outcome
 eachOn status at span v ws =
     settled (targetOf status (walkOf ws 0)) (λ n. fitted (ltb v (2 ^ span)) (putEach n at span v ws) ws) ws
 

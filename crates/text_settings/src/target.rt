@@ -5,12 +5,12 @@ ghost use Rattle.standard.specs.Walk.{walkOf};
 ghost use Rattle.settings.specs.Target.{targetOf};
 ghost use Rattle.text_settings.specs.Texts.{loneOf, LoneHead};
 use counts::PacketNumber;
-use fast_text::plain::plain_packet;
 use kinds::kind::Kind;
 use reading::heads::status_of;
 use reading::one_pass::text_packets;
 use settings::target::Target;
 use settings::target::find_target;
+use text_check::ascii::ascii_packet;
 
 // Whether the first packet is a whole message with the upper half of this head, and its text is plain.
 fn lone(words: &[u32], head: u32) -> bool
@@ -22,7 +22,7 @@ fn lone(words: &[u32], head: u32) -> bool
     if words[0] / 0x10000 != head / 0x10000 {
         return false;
     }
-    plain_packet(words, 0, 0)
+    ascii_packet(words, 0, 0)
 }
 
 // The packets of a message of this kind, which has this status, or why a setting of it is refused.

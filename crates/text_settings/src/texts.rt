@@ -7,12 +7,12 @@ ghost use Rattle.text_settings.specs.Texts.{LoneHead, roomOf, planOf, te
 use crate::target::find_near_target;
 use buffer::texts::fill_text;
 use counts::PacketNumber;
-use fast_text::check_utf8;
 use kinds::kind::Kind;
 use kinds::refusal::Refusal;
 use records::answers::Answer;
 use settings::target::Target;
 use text::packets::packets_needed;
+use text_check::check_utf8;
 use utf8::Utf8;
 
 pub enum Plan {

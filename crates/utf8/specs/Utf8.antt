@@ -13,24 +13,25 @@ use Rattle.utf8.specs.declared.Utf8.the-variants.{Good, BadAt}
 
 infix 80 _‥_
 infix 50 _then_
--- the bytes from one to another, both of them too
+-- the bytes from one number to another, both included
 pub data Range : Type 0 where
   _‥_ : ℕ → ℕ → Range
 
+-- whether a byte is in a range
 abbrev pub inside : Range → ℕ → Bool
 inside (low ‥ high) x = leb low x && leb x high
 
--- a row: a range for the first byte of a character, and one for each byte after it
-pub data Row : Type 0 where
-  _then_ : Range → List Range → Row
+-- a range for the first byte of a character, and a range for each byte after it
+pub data CharRow : Type 0 where
+  _then_ : Range → List Range → CharRow
 
 -- RFC 3629: UTF8-tail
 abbrev pub tail : Range
 tail = 0x80 ‥ 0xBF
 
--- RFC 3629: UTF8-char, a row for each of its choices
-abbrev pub table : List Row
-table =
+-- RFC 3629: UTF8-char, one row for each alternative
+abbrev pub charTable : List CharRow
+charTable =
     (0x00 ‥ 0x7F then [])
     ∷ (0xC2 ‥ 0xDF then tail ∷ [])
     ∷ (0xE0 ‥ 0xE0 then 0xA0 ‥ 0xBF ∷ tail ∷ [])
@@ -42,30 +43,32 @@ table =
     ∷ (0xF4 ‥ 0xF4 then 0x80 ‥ 0x8F ∷ tail ∷ tail ∷ [])
     ∷ []
 
--- what has to come after a first byte x: nothing at all where no row has it
-abbrev pub rowOf : List Row → ℕ → Option (List Range)
-rowOf [] x = none
-rowOf ((r then ds) ∷ rows) x = pick (inside r x) (some ds) (rowOf rows x)
+-- the ranges of the bytes that must follow first byte x, by some rows; none if no row has x
+abbrev pub rangesAfter : List CharRow → ℕ → Option (List Range)
+rangesAfter [] x = none
+rangesAfter ((r then ds) ∷ rows) x = pick (inside r x) (some ds) (rangesAfter rows x)
 
-unfoldable pub after : ℕ → Option (List Range)
-after x = rowOf table x
+-- the same by the whole table
+unfoldable pub dueAfter : ℕ → Option (List Range)
+dueAfter x = rangesAfter charTable x
 
 -- ---- what is valid
 
--- a byte in each range, and no more
+-- one byte in each range, and no more
 pub data Fit : List Range → List ℕ → Type 0 where
   no-more : Fit [] []
   one-more : {d : Range} {ds : List Range} {x : ℕ} {xs : List ℕ} → inside d x ≡ true → Fit ds xs → Fit (d ∷ ds) (x ∷ xs)
 
+-- RFC 3629: UTF8-char, one character
 pub data Char : List ℕ → Type 0 where
-  char : {x : ℕ} {ds : List Range} {xs : List ℕ} → after x ≡ some ds → Fit ds xs → Char (x ∷ xs)
+  char : {x : ℕ} {ds : List Range} {xs : List ℕ} → dueAfter x ≡ some ds → Fit ds xs → Char (x ∷ xs)
 
--- RFC 3629: UTF8-octets, one character after the other
+-- RFC 3629: UTF8-octets, a sequence of characters
 pub data Valid : List ℕ → Type 0 where
   empty : Valid []
   more : {c s : List ℕ} → Char c → Valid s → Valid (c ++ s)
 
--- the first bad character starts at byte n: what stands before is valid, there is something there, and it starts with no character
+-- the first bad character starts at byte n: the text before n is valid, and what is at n does not start with a character
 pub record BadFrom (s : List ℕ) (n : ℕ) : Type 0 where
   pub before : Valid (take n s)
   pub there : n < length s
@@ -73,29 +76,33 @@ pub record BadFrom (s : List ℕ) (n : ℕ) : Type 0 where
 
 -- ---- where the first bad character starts, byte by byte
 
--- in a character that started at a byte, with these ranges due; or stopped at a bad one
+-- `going ds n`: in a character that started at byte n, with the ranges ds still due; `stopped n`: the character at n is bad
 pub data State : Type 0 where
   going : List Range → ℕ → State
   stopped : ℕ → State
 
-abbrev pub begun : Option (List Range) → ℕ → State
-begun (some ds) at = going ds at
-begun none at = stopped at
+-- the state after a first byte, number `at`, with these ranges due; `none` if the byte is bad
+abbrev pub startChar : Option (List Range) → ℕ → State
+startChar (some ds) at = going ds at
+startChar none at = stopped at
 
-abbrev pub next : State → ℕ → ℕ → State
-next (stopped n) at x = stopped n
-next (going [] n) at x = begun (after x) at
-next (going (d ∷ ds) n) at x = pick (inside d x) (going ds n) (stopped n)
+-- the state after byte x, number `at`
+abbrev pub nextState : State → ℕ → ℕ → State
+nextState (stopped n) at x = stopped n
+nextState (going [] n) at x = startChar (dueAfter x) at
+nextState (going (d ∷ ds) n) at x = pick (inside d x) (going ds n) (stopped n)
 
+-- the verdict if the text ends here
 abbrev pub verdict : State → Utf8
 verdict (stopped n) = BadAt (byte n)
 verdict (going [] n) = Good
 verdict (going (d ∷ ds) n) = BadAt (byte n)
 
--- the verdict on the bytes that are left, of which the first is byte number at
-abbrev pub walk : State → ℕ → List ℕ → Utf8
-walk s at [] = verdict s
-walk s at (x ∷ xs) = walk (next s at x) (suc at) xs
+-- the verdict on the remaining bytes; the first of them is byte number `at`
+abbrev pub verdictFrom : State → ℕ → List ℕ → Utf8
+verdictFrom s at [] = verdict s
+verdictFrom s at (x ∷ xs) = verdictFrom (nextState s at x) (suc at) xs
 
+-- THE VERDICT on a text: good, or where its first bad character starts
 unfoldable pub firstBad : List ℕ → Utf8
-firstBad xs = walk (going [] 0) 0 xs
+firstBad xs = verdictFrom (going [] 0) 0 xs

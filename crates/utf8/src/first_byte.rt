@@ -1,10 +1,10 @@
-// What the first byte of a character says of it: its length, and the range of its second byte.
+// What the first byte of a character tells: the character's length, and the range of its second byte.
 ghost use mathlib.Core.Path.{_≡_};
-ghost use Rattle.utf8.specs.Scan.{lengthOf, barredOf, lowOf, highOf};
+ghost use Rattle.utf8.specs.Scan.{charLength, neverFirst, secondLow, secondHigh};
 
-// The length of a character by the one bits that its first byte starts with, and 0 where no character starts so.
-pub(crate) fn length_of_first(b: u8) -> u8
-    ensures { λ r. ⌜ r ≡ lengthOf b ⌝ }
+// The length of a character by the leading one bits of its first byte; 0 if no character starts with that many.
+pub(crate) fn char_length(b: u8) -> u8
+    ensures { λ r. ⌜ r ≡ charLength b ⌝ }
 {
     match u8::leading_zeros(!b) {
         0 => 1,
@@ -15,9 +15,9 @@ pub(crate) fn length_of_first(b: u8) -> u8
     }
 }
 
-// First bytes that no character has, though their bits could start one.
-pub(crate) fn is_barred(b: u8) -> bool
-    ensures { λ r. ⌜ r ≡ barredOf b ⌝ }
+// Whether no character starts with b, though its leading bits look right.
+pub(crate) fn is_never_first(b: u8) -> bool
+    ensures { λ r. ⌜ r ≡ neverFirst b ⌝ }
 {
     if b == 0xC0 {
         return true;
@@ -28,9 +28,9 @@ pub(crate) fn is_barred(b: u8) -> bool
     b >= 0xF5
 }
 
-// The smallest second byte, by the first.
+// The smallest second byte after first byte b.
 pub(crate) fn second_low(b: u8) -> u8
-    ensures { λ r. ⌜ r ≡ lowOf b ⌝ }
+    ensures { λ r. ⌜ r ≡ secondLow b ⌝ }
 {
     match b {
         0xE0 => 0xA0,
@@ -39,9 +39,9 @@ pub(crate) fn second_low(b: u8) -> u8
     }
 }
 
-// The largest second byte, by the first.
+// The largest second byte after first byte b.
 pub(crate) fn second_high(b: u8) -> u8
-    ensures { λ r. ⌜ r ≡ highOf b ⌝ }
+    ensures { λ r. ⌜ r ≡ secondHigh b ⌝ }
 {
     match b {
         0xED => 0x9F,

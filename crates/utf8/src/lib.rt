@@ -5,27 +5,27 @@ use crate::scan::Scan;
 use counts::TextByteNumber;
 
 mod first_byte;
-pub mod reading;
 pub mod scan;
+pub mod skipping_zeros;
 
-// What a check of a text answers: the number is that of the byte at which the first bad character starts.
+// The answer of a check. The number is the byte at which the first bad character starts.
 pub enum Utf8 {
     Good,
     BadAt(TextByteNumber),
 }
 
-// Whether a text is UTF-8, and where its first bad character starts. It stops there.
+// Whether a text is UTF-8; if not, where its first bad character starts.
 pub fn check_utf8(text: &[u8]) -> Utf8
     ensures { λ r. ⌜ r ≡ firstBad (now (text .entry)) ⌝ }
 {
-    let mut s = scan::fresh();
+    let mut s = scan::new_scan();
     let mut i = 0;
     while i < text.len() {
-        s = scan::stepped(s, TextByteNumber(i), text[i]);
+        s = scan::after_byte(s, TextByteNumber(i), text[i]);
         if let Scan::Stopped(n) = s {
             return Utf8::BadAt(n);
         }
         i += 1;
     }
-    scan::ended(s)
+    scan::verdict_at_end(s)
 }

@@ -1,12 +1,11 @@
-// A check byte by byte: how far it has come, a byte more, and what it answers where the text ends.
+// The check one byte at a time: its state, the state after one more byte, and the verdict at the end.
 ghost use mathlib.Core.Path.{_≡_};
-ghost use Rattle.utf8.specs.Scan.{freshOf, beganOf, steppedOf, endedOf};
+ghost use Rattle.utf8.specs.Scan.{newScan, afterFirstByte, afterByte, verdictAtEnd};
 use crate::Utf8;
 use crate::first_byte;
 use counts::TextByteNumber;
 
-// How far a check has come: in a character that started at byte `start`, with `due` bytes still to
-// come, of which the next is from `low` to `high`; or stopped at a bad character.
+// In a character that started at byte `start`, with `due` bytes still to come, the next from `low` to `high`; or stopped at a bad character.
 pub enum Scan {
     Going {
         due: u8,
@@ -17,9 +16,9 @@ pub enum Scan {
     Stopped(TextByteNumber),
 }
 
-// A check that has seen nothing.
-pub(crate) fn fresh() -> Scan
-    ensures { λ r. ⌜ r ≡ freshOf ⌝ }
+// A check that has read nothing.
+pub(crate) fn new_scan() -> Scan
+    ensures { λ r. ⌜ r ≡ newScan ⌝ }
 {
     Scan::Going {
         due: 0,
@@ -29,15 +28,15 @@ pub(crate) fn fresh() -> Scan
     }
 }
 
-// The check after b, byte number at, where a character starts.
-pub(crate) fn began(at: TextByteNumber, b: u8) -> Scan
-    ensures { λ r. ⌜ r ≡ beganOf at b ⌝ }
+// The check after byte b, number `at`, where a character starts.
+pub(crate) fn after_first_byte(at: TextByteNumber, b: u8) -> Scan
+    ensures { λ r. ⌜ r ≡ afterFirstByte at b ⌝ }
 {
-    let n = first_byte::length_of_first(b);
+    let n = first_byte::char_length(b);
     if n == 0 {
         return Scan::Stopped(at);
     }
-    if first_byte::is_barred(b) {
+    if first_byte::is_never_first(b) {
         return Scan::Stopped(at);
     }
     Scan::Going {
@@ -48,9 +47,9 @@ pub(crate) fn began(at: TextByteNumber, b: u8) -> Scan
     }
 }
 
-// The check after b, byte number at.
-pub(crate) fn stepped(s: Scan, at: TextByteNumber, b: u8) -> Scan
-    ensures { λ r. ⌜ r ≡ steppedOf s at b ⌝ }
+// The check after byte b, number `at`.
+pub(crate) fn after_byte(s: Scan, at: TextByteNumber, b: u8) -> Scan
+    ensures { λ r. ⌜ r ≡ afterByte s at b ⌝ }
 {
     match s {
         Scan::Stopped(n) => Scan::Stopped(n),
@@ -61,7 +60,7 @@ pub(crate) fn stepped(s: Scan, at: TextByteNumber, b: u8) -> Scan
             start,
         } => {
             if due == 0 {
-                return began(at, b);
+                return after_first_byte(at, b);
             }
             if b < low {
                 return Scan::Stopped(start);
@@ -79,9 +78,9 @@ pub(crate) fn stepped(s: Scan, at: TextByteNumber, b: u8) -> Scan
     }
 }
 
-// What a check answers where the text ends.
-pub fn ended(s: Scan) -> Utf8
-    ensures { λ r. ⌜ r ≡ endedOf s ⌝ }
+// The verdict at the end of the text.
+pub fn verdict_at_end(s: Scan) -> Utf8
+    ensures { λ r. ⌜ r ≡ verdictAtEnd s ⌝ }
 {
     match s {
         Scan::Stopped(n) => Utf8::BadAt(n),

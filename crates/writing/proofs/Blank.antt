@@ -19,7 +19,7 @@ use Rattle.kinds.specs.Layout.{layout, kindOf, parts}
 use Rattle.table.specs.Rows.{tableRow}
 use Rattle.records.specs.declared.answers.Answer.the-variants as A
 use Rattle.standard.specs.Heads.{headWord}
-use Rattle.standard.specs.Words.{left, unchanged, putWord, headOf, fresh, freshOn}
+use Rattle.standard.specs.Words.{outcome, unchanged, putWord, headOf, fresh, freshOn}
 
 -- a buffer with a whole packet, cleared: its first packet, and the rest
 record Opened (ws : List ℕ) : Type 0 where
@@ -76,6 +76,6 @@ module _ (status : ℕ) (ws : List ℕ) where
     unfolding freshOn
     fresh-short h = rw (e, eq-eqb (length ws / 4) 0 (omega arith))
 
-    pub fresh-done : 4 ≤ length ws → freshOn status ws ≡ left A.Done (blank (headOf (layout k) start 0) ws)
+    pub fresh-done : 4 ≤ length ws → freshOn status ws ≡ outcome A.Done (blank (headOf (layout k) start 0) ws)
     unfolding freshOn
-    fresh-done h = rw (e, ne-eqb (length ws / 4) 0 (λ z. omega arith)) (ap (left A.Done) (fresh-blank k ws h))
+    fresh-done h = rw (e, ne-eqb (length ws / 4) 0 (λ z. omega arith)) (ap (outcome A.Done) (fresh-blank k ws h))

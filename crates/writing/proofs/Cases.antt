@@ -8,7 +8,7 @@ use lib.ListN.{length}
 use lib.Dec.{ltb}
 use borrow.Author.Tests.{eq-eqb, ne-eqb}
 use Rattle.laws.proofs.Pick.{true-false}
-use Rattle.slots.specs.Slots.{fits, within}
+use Rattle.slots.specs.Slots.{fits, bitsWithin}
 use Rattle.kinds.proofs.Rows.{row-right}
 use Rattle.text.specs.Written.{blank}
 use Rattle.kinds.specs.declared.kind.Kind.{Kind}
@@ -25,7 +25,7 @@ use Rattle.records.specs.declared.answers.Answer.the-variants as A
 use Rattle.records.specs.Records.{kindIn, valuesOf}
 use Rattle.standard.specs.Heads.{headWord}
 use Rattle.buffer.specs.Filling.{putIns}
-use Rattle.standard.specs.Words.{left, unchanged, encodeIn, encode, writeOn}
+use Rattle.standard.specs.Words.{outcome, unchanged, encodeIn, encode, writeOn}
 use Rattle.buffer.proofs.Puts.{ins-put}
 use Rattle.writing.specs.Put.{putRecord}
 
@@ -41,7 +41,7 @@ text-most (texts t from) = refl
 -- a fixed kind, each of whose slots lies within a word
 pub record Fixed (m : Message) : Type 0 where
   pub body : layout (kindIn m) .body ≡ fixed
-  pub narrow : within 32 (layout (kindIn m) .fields) ≡ true
+  pub narrow : bitsWithin 32 (layout (kindIn m) .fields) ≡ true
 
 no-text : (b : Body) → hasText b ≡ false → b ≡ fixed
 no-text fixed e = refl
@@ -60,10 +60,10 @@ module _ {m : Message} (k : Fixed m) (ws : List ℕ) where
     unfolding writeOn
     write-short h = rw (k .body, f, eq-eqb (length ws / 4) 0 (omega arith))
 
-    pub write-done : 4 ≤ length ws → writeOn m ws ≡ left A.Done (putRecord m ws)
+    pub write-done : 4 ≤ length ws → writeOn m ws ≡ outcome A.Done (putRecord m ws)
     unfolding writeOn encode encodeIn putRecord
     write-done h =
-        rw (k .body, f, ne-eqb (length ws / 4) 0 (λ z. omega arith)) (ap (left A.Done) (sym (ins-put _ _ _ (k .narrow) f)))
+        rw (k .body, f, ne-eqb (length ws / 4) 0 (λ z. omega arith)) (ap (outcome A.Done) (sym (ins-put _ _ _ (k .narrow) f)))
 
 -- ---- what the code put, and what it found, by the kind and the numbers that it was given
 head-is : (k : Kind) → 0xF000_0000 + layout k .status * 0x1_0000 ≡ headWord (layout k .status) 0

@@ -1,4 +1,4 @@
--- `ascii_lines::digits_of`: the digits counted and those of what is left are one more than the number's, since what is left at the end has one.
+-- `digits_of` meets its contract. Invariant: the digits counted, and those of the rest, are one more than the number has.
 use Prim.Native.Nat.{_+_, _≤_}
 use mathlib.Core.Path.{_≡_}
 use native.Mathlib.Omega.{arith}

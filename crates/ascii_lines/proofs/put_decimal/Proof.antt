@@ -1,4 +1,4 @@
--- `ascii_lines::put_decimal`: the digits that are left, stored from the place on, are all of them, stored so in the buffer as it came.
+-- `put_decimal` meets its contract. Invariant: storing the remaining digits now gives the buffer with all digits stored.
 use Prim.Native.Nat.{ℕ, _≤_}
 use mathlib.Core.Path.{_≡_, refl, ap, _∙_}
 use mathlib.Core.List.{[], _∷_}
@@ -9,7 +9,7 @@ use borrow.Author.Needs.{needs}
 use Rattle.ascii_lines.specs.Numbers.{decimal}
 use Rattle.ascii_lines.proofs.Page.{says}
 use Rattle.ascii_lines.proofs.Room.{length-most}
-use Rattle.ascii_lines.proofs.FromLast.{lastDigits, last-all, turn, stored, stayed, cut, whole}
+use Rattle.ascii_lines.proofs.FromLast.{lastDigits, last-all, digit-turn, stored, stayed, cut, whole}
 use Rattle.ascii_lines.proofs.put_decimal.Statement.{statement}
 use Rattle.ascii_lines.proofs.put_decimal.Tie as tie
 
@@ -55,7 +55,7 @@ loop-again c =
     let l = c .before .before .before .before .before .before .loop in
     let w = c .before .before .put-byte in
     let d = c .before .before .before .digit .ensures in
-    (omega arith, l .inv .1, w .kept .0 ∙ l .inv .2, turn _ _ (l .rest) (omega arith) (says (w .ensures) (ap (λ (x : ℕ). x ∷ []) d)) ∙ l .inv .3)
+    (omega arith, l .inv .1, w .kept .0 ∙ l .inv .2, digit-turn _ _ (l .rest) (omega arith) (says (w .ensures) (ap (λ (x : ℕ). x ∷ []) d)) ∙ l .inv .3)
 
 sub-if2 : tie.Need-sub-if2 Inv-loop μ-loop
 sub-if2 c = omega arith

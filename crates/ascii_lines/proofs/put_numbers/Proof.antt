@@ -1,22 +1,22 @@
--- `ascii_lines::put_numbers`: what is left of the numbers, put from the place reached, is all of them, put from the start.
+-- `put_numbers` meets its contract. Invariant: writing the remaining numbers from here gives all numbers written from the start.
 use Prim.Native.Nat.{_≤_, _-_}
 use mathlib.Core.Path.{_≡_, refl, _∙_}
 use lib.ListN.{length, drop}
 use Rattle.laws.proofs.Lists.{each-more, each-none}
 use Rattle.ascii_lines.specs.Numbers.{number, numbers}
-use Rattle.ascii_lines.proofs.Page.{Left, left-all, left-turn, left-none}
+use Rattle.ascii_lines.proofs.Page.{ToWrite, to-write-all, to-write-turn, to-write-none}
 use borrow.Author.Needs.{needs}
 use Rattle.ascii_lines.proofs.put_numbers.Statement.{statement}
 use Rattle.ascii_lines.proofs.put_numbers.Tie as tie
 
 abbrev Inv-loop : tie.InvT-loop
-Inv-loop out₀ at ns p₀ i₀ out p i = (i ≤ length ns) × (length out ≡ length out₀) × Left at out₀ (numbers ns) p out (numbers (drop i ns))
+Inv-loop out₀ at ns p₀ i₀ out p i = (i ≤ length ns) × (length out ≡ length out₀) × ToWrite at out₀ (numbers ns) p out (numbers (drop i ns))
 
 abbrev μ-loop : tie.MeasureT-loop
 μ-loop out₀ at ns p₀ i₀ out p i = length ns - i
 
 loop-holds : tie.Need-loop-holds Inv-loop μ-loop
-loop-holds c = (search needs, refl, left-all _ _ _)
+loop-holds c = (search needs, refl, to-write-all _ _ _)
 
 mul-put-number : tie.Need-mul-put-number Inv-loop μ-loop
 mul-put-number c = search needs
@@ -36,13 +36,13 @@ loop-less c = search needs
 loop-again : tie.Need-loop-again Inv-loop μ-loop
 loop-again c = let l = c .before .before .before .before .before .before .loop .inv in
     let w = c .before .before .put-number in
-    (search needs, w .kept .0 ∙ l .1, left-turn (l .2) (w .ensures) (each-more number _ _ (c .before .before .before .before .before .loop-test .taken)))
+    (search needs, w .kept .0 ∙ l .1, to-write-turn (l .2) (w .ensures) (each-more number _ _ (c .before .before .before .before .before .loop-test .taken)))
 
 same-length : tie.Need-same-length Inv-loop μ-loop
 same-length c = search needs
 
 returns : tie.Need-returns Inv-loop μ-loop
-returns c = left-none (c .before .loop .inv .2) (each-none number _ _ (c .loop-test .left))
+returns c = to-write-none (c .before .loop .inv .2) (each-none number _ _ (c .loop-test .left))
 
 pub put-numbers-spec : {M : Type 1} → statement M
 put-numbers-spec =

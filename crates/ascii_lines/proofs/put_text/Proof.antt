@@ -1,21 +1,21 @@
--- `ascii_lines::put_text`: what is left of the text, put from the place reached, is the whole, put from the start.
+-- `put_text` meets its contract. Invariant: writing the remaining text from here gives the whole text written from the start.
 use Prim.Native.Nat.{_≤_, _-_}
 use mathlib.Core.Path.{_≡_, refl, _∙_}
 use lib.ListN.{length, drop, drop-of-length-le}
 use Rattle.laws.proofs.Lists.{drop-more}
-use Rattle.ascii_lines.proofs.Page.{Left, left-all, left-turn, left-none}
+use Rattle.ascii_lines.proofs.Page.{ToWrite, to-write-all, to-write-turn, to-write-none}
 use borrow.Author.Needs.{needs}
 use Rattle.ascii_lines.proofs.put_text.Statement.{statement}
 use Rattle.ascii_lines.proofs.put_text.Tie as tie
 
 abbrev Inv-loop : tie.InvT-loop
-Inv-loop out₀ at text p₀ i₀ out p i = (i ≤ length text) × (length out ≡ length out₀) × Left at out₀ text p out (drop i text)
+Inv-loop out₀ at text p₀ i₀ out p i = (i ≤ length text) × (length out ≡ length out₀) × ToWrite at out₀ text p out (drop i text)
 
 abbrev μ-loop : tie.MeasureT-loop
 μ-loop out₀ at text p₀ i₀ out p i = length text - i
 
 loop-holds : tie.Need-loop-holds Inv-loop μ-loop
-loop-holds c = (search needs, refl, left-all _ _ _)
+loop-holds c = (search needs, refl, to-write-all _ _ _)
 
 shared-slice-read-put-byte : tie.Need-shared-slice-read-put-byte Inv-loop μ-loop
 shared-slice-read-put-byte c = search needs
@@ -32,13 +32,13 @@ loop-less c = search needs
 loop-again : tie.Need-loop-again Inv-loop μ-loop
 loop-again c = let l = c .before .before .before .before .before .before .loop .inv in
     let w = c .before .before .put-byte in
-    (search needs, w .kept .0 ∙ l .1, left-turn (l .2) (w .ensures) (drop-more _ _ (c .before .before .before .before .before .loop-test .taken)))
+    (search needs, w .kept .0 ∙ l .1, to-write-turn (l .2) (w .ensures) (drop-more _ _ (c .before .before .before .before .before .loop-test .taken)))
 
 same-length : tie.Need-same-length Inv-loop μ-loop
 same-length c = search needs
 
 returns : tie.Need-returns Inv-loop μ-loop
-returns c = left-none (c .before .loop .inv .2) (drop-of-length-le _ (c .loop-test .left))
+returns c = to-write-none (c .before .loop .inv .2) (drop-of-length-le _ (c .loop-test .left))
 
 pub put-text-spec : {M : Type 1} → statement M
 put-text-spec =

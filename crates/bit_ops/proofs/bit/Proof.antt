@@ -1,4 +1,4 @@
--- `bit` tells whether its part is 1.
+-- `bit` meets its contract: the part is compared with 1.
 use Prim.Native.Nat.{ℕ}
 use mathlib.Core.Path.{ap}
 use lib.Dec.{eqb}

@@ -1,4 +1,4 @@
--- `part` gives the part, or 0 where there is none.
+-- `part` meets its contract: the part, or 0 if the index is out of range.
 use mathlib.Core.Path.{sym}
 use lib.Pow.{pow-pos}
 use Rattle.bit_ops.proofs.Parts.{part-out, part-at}
@@ -10,7 +10,7 @@ returns : tie.Need-returns
 returns c = (sym (part-out _ _ _ _ (c .if1 .taken)), pow-pos _)
 
 returns-2 : tie.Need-returns-2
-returns-2 c = part-at _ _ _ _ _ _ (c .before .before .if1 .left) (c .before .place .ensures) (c .get .ensures)
+returns-2 c = part-at _ _ _ _ _ _ (c .before .before .if1 .left) (c .before .lowest-bit .ensures) (c .get-bits .ensures)
 
 pub part-spec : {M : Type 1} → statement M
 part-spec =

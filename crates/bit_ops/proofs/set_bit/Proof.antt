@@ -1,4 +1,4 @@
--- `set_bit` puts a bool as 1 or 0.
+-- `set_bit` meets its contract: a bool is put as 1 or 0.
 use Rattle.bit_ops.proofs.Parts.{bit-byte}
 use borrow.Author.Needs.{needs}
 use Rattle.bit_ops.proofs.set_bit.Statement.{statement}

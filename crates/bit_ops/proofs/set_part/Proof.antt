@@ -1,4 +1,4 @@
--- `set_part` gives the word with the part put, and the word as it was where nothing can be put.
+-- `set_part` meets its contract: the part is put, or nothing changes.
 use mathlib.Core.Path.{sym}
 use native.Mathlib.Omega.{arith}
 use Rattle.laws.proofs.Bits.{one-shl}
@@ -14,7 +14,7 @@ returns-2 : tie.Need-returns-2
 returns-2 c = sym (put-large _ _ _ _ _ (c .before .if1 .left) (omega (arith, one-shl {k = c .before .before .args .span} 32 (omega arith))))
 
 returns-3 : tie.Need-returns-3
-returns-3 c = put-at _ _ _ _ _ _ _ (c .before .before .before .if1 .left) (omega arith) (c .before .place .ensures) (c .put .ensures)
+returns-3 c = put-at _ _ _ _ _ _ _ (c .before .before .before .if1 .left) (omega arith) (c .before .lowest-bit .ensures) (c .put-bits .ensures)
 
 pub set-part-spec : {M : Type 1} → statement M
 set-part-spec =

@@ -1,4 +1,4 @@
--- `fields::put_each` meets its contract, by the laws of `Turns` and `Pick` of laws, turn by turn.
+-- `fields::put_each` meets its contract, by the laws of `Turns`, turn by turn.
 use Prim.Native.Nat.{_≤_, _-_, _*_, _/_}
 use mathlib.Core.Path.{refl}
 use native.Mathlib.Omega.{arith}
@@ -6,14 +6,14 @@ use lib.ListN.{length}
 use borrow.Author.Tests.{lt-ltb, le-ltb}
 use Rattle.laws.proofs.Pick.{here, past}
 use Rattle.text.specs.Written.{eachFirst}
-use Rattle.buffer.specs.Filling.{putSafe, putEach}
+use Rattle.buffer.specs.Filling.{putIfFits, putEach}
 use Rattle.buffer.proofs.Turns.{Filled, firsts, none-filled, packet-filled, all-filled}
 use borrow.Author.Needs.{needs}
 use Rattle.buffer.proofs.fields.put_each.Statement.{statement}
 use Rattle.buffer.proofs.fields.put_each.Tie as tie
 
 abbrev Inv-loop : tie.InvT-loop
-Inv-loop words₀ at span v n p₀ words p = (n ≤ length words₀ / 4) × (p ≤ n) × Filled (p * 4) (firsts (λ w. putSafe w at span v) words₀) words₀ words
+Inv-loop words₀ at span v n p₀ words p = (n ≤ length words₀ / 4) × (p ≤ n) × Filled (p * 4) (firsts (λ w. putIfFits w at span v) words₀) words₀ words
 
 abbrev μ-loop : tie.MeasureT-loop
 μ-loop words₀ at span v n p₀ words p = n - p
@@ -53,7 +53,7 @@ loop-less : tie.Need-loop-less Inv-loop μ-loop
 loop-less c = omega arith
 
 loop-again : tie.Need-loop-again Inv-loop μ-loop
-loop-again c = let a = c .before .before .before .before .before .before .args in (c .before .before .before .loop .inv .0, omega arith, packet-filled (λ w. putSafe w (a .at) (a .span) (a .v)) (c .before .before .before .loop .p) _ (c .before .before .before .loop .inv .2) (omega arith) (c .with-field .ensures))
+loop-again c = let a = c .before .before .before .before .before .before .args in (c .before .before .before .loop .inv .0, omega arith, packet-filled (λ w. putIfFits w (a .at) (a .span) (a .v)) (c .before .before .before .loop .p) _ (c .before .before .before .loop .inv .2) (omega arith) (c .with-field .ensures))
 
 same-length : tie.Need-same-length Inv-loop μ-loop
 same-length c = c .before .loop .inv .2 .long

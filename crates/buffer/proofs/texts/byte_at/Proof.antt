@@ -1,4 +1,4 @@
--- `texts::byte_at` meets its contract: the byte is there, or it is 0.
+-- `texts::byte_at` meets its contract: the byte, or 0 past the end.
 use mathlib.Core.Path.{refl, sym}
 use native.Mathlib.Omega.{arith}
 use lib.ListN.{List·getD-eq-default}

@@ -17,8 +17,8 @@ abbrev μ-loop : tie.MeasureT-loop
 loop-holds : tie.Need-loop-holds Inv-loop μ-loop
 loop-holds c = (omega arith, none-filled _ _)
 
-fill-packet-requires : tie.Need-fill-packet-requires Inv-loop μ-loop
-fill-packet-requires c κs =
+fill-any-packet-requires : tie.Need-fill-any-packet-requires Inv-loop μ-loop
+fill-any-packet-requires c κs =
     let s = c .before .before .before .before .before in
     (s .pre .0, omega (arith, c .before .loop-test .taken, s .pre .1, s .pre .2), omega (arith, c .before .loop-test .taken, s .pre .3, c .before .before .loop .inv .1 .long))
 
@@ -33,7 +33,7 @@ loop-again c =
     let s = c .before .before .before .before .before .before .before .before in
     let l = c .before .before .before .before .before .loop in
     let t = c .before .before .before .before .loop-test .taken in
-    (omega (arith, t), rw (c .before .before .fill-packet .ensures) (text-more _ _ _ _ _ (l .inv .1) (omega (arith, t, s .pre .2)) (omega (arith, t, s .pre .3))))
+    (omega (arith, t), rw (c .before .before .fill-any-packet .ensures) (text-more _ _ _ _ _ (l .inv .1) (omega (arith, t, s .pre .2)) (omega (arith, t, s .pre .3))))
 
 same-length : tie.Need-same-length Inv-loop μ-loop
 same-length c = c .before .loop .inv .1 .long
@@ -45,4 +45,4 @@ pub fill-packets-spec : {M : Type 1} → statement M
 fill-packets-spec =
     tie.close
     (tie.spec
-    Inv-loop μ-loop loop-holds fill-packet-requires add-p loop-less loop-again same-length returns)
+    Inv-loop μ-loop loop-holds fill-any-packet-requires add-p loop-less loop-again same-length returns)

@@ -1,4 +1,4 @@
--- `texts::fill_text` meets its contract, by the laws of `Turns`, `Pick` of laws and `Written` of text.
+-- `texts::fill_text` meets its contract, by the laws of `Turns` and `Written`.
 use Prim.Native.Nat.{_-_, _*_}
 use mathlib.Core.Path.{refl, sym, ap, _∙_}
 use native.Mathlib.Omega.{arith}

@@ -6,14 +6,14 @@ use lib.ListN.{length}
 use Rattle.laws.specs.Lists.{each}
 use Rattle.text.specs.Bytes.{textOf}
 use Rattle.ascii_lines.specs.Numbers.{hexByte}
-use Rattle.ascii_lines.proofs.Page.{Left, left-all, left-turn, left-none}
+use Rattle.ascii_lines.proofs.Page.{ToWrite, to-write-all, to-write-turn, to-write-none}
 use Rattle.listing.proofs.Ahead.{Ahead, ahead, ahead-all, ahead-start, hex-more, ahead-more, ahead-less, hex-none}
 use borrow.Author.Needs.{needs}
 use Rattle.listing.proofs.shown.put_bytes.Statement.{statement}
 use Rattle.listing.proofs.shown.put_bytes.Tie as tie
 
 abbrev Inv-loop : tie.InvT-loop
-Inv-loop out₀ at words offset p₀ place₀ out p place = (length out ≡ length out₀) × Ahead words (14 - offset) place × Left at out₀ (each hexByte (textOf words (14 - offset) (length words / 4))) p out (each hexByte (ahead words (14 - offset) place))
+Inv-loop out₀ at words offset p₀ place₀ out p place = (length out ≡ length out₀) × Ahead words (14 - offset) place × ToWrite at out₀ (each hexByte (textOf words (14 - offset) (length words / 4))) p out (each hexByte (ahead words (14 - offset) place))
 
 abbrev μ-loop : tie.MeasureT-loop
 μ-loop out₀ at words offset p₀ place₀ out p place = length (ahead words (14 - offset) place)
@@ -24,7 +24,7 @@ start-requires c κs = search needs
 loop-holds : tie.Need-loop-holds Inv-loop μ-loop
 loop-holds c = let a = c .before .before .before .args in
     rw (c .start .ensures)
-    (refl, ahead-start (a .words .now) (14 - a .offset) (omega arith), rw (ahead-all (a .words .now) (14 - a .offset) (omega arith)) (left-all _ _ _))
+    (refl, ahead-start (a .words .now) (14 - a .offset) (omega arith), rw (ahead-all (a .words .now) (14 - a .offset) (omega arith)) (to-write-all _ _ _))
 
 step-requires : tie.Need-step-requires Inv-loop μ-loop
 step-requires c κs = search needs
@@ -37,7 +37,7 @@ same-length c = search needs
 
 returns : tie.Need-returns Inv-loop μ-loop
 returns c = let l = c .before .before .before .loop .inv in
-    left-none (l .2) (hex-none _ _ _ (l .1) _ (c .before .before .step .ensures) (c .enum-told .given .1))
+    to-write-none (l .2) (hex-none _ _ _ (l .1) _ (c .before .before .step .ensures) (c .enum-told .given .1))
 
 enum-known-found : tie.Need-enum-known-found Inv-loop μ-loop
 enum-known-found c = search needs
@@ -54,7 +54,7 @@ loop-again c = let l = c .before .before .before .before .before .before .before
     let s = c .before .before .before .before .before .before .before .before .step .ensures in
     let t = c .before .before .before .before .before .before .found .given .1 in
     let w = c .before .before .before .put-hex in
-    (w .kept .0 ∙ l .0, ahead-more _ _ _ (l .1) _ s _ t, left-turn (l .2) (w .ensures) (hex-more _ _ _ (l .1) _ s _ t))
+    (w .kept .0 ∙ l .0, ahead-more _ _ _ (l .1) _ s _ t, to-write-turn (l .2) (w .ensures) (hex-more _ _ _ (l .1) _ s _ t))
 
 pub put-bytes-spec : {M : Type 1} → statement M
 put-bytes-spec =

@@ -6,7 +6,7 @@ use Rattle.buffer.specs.Filling.{putIns}
 use Rattle.numbers.specs.BySlot.{fitFrom, putFrom}
 use Rattle.settings.proofs.Slots.{facts, set-slots}
 use borrow.Author.Needs.{needs}
-use Rattle.standard.proofs.Left.{said-as}
+use Rattle.standard.proofs.Outcome.{said-as}
 use Rattle.settings.proofs.device_identity.set_software_version.Statement.{statement}
 use Rattle.settings.proofs.device_identity.set_software_version.Tie as tie
 

@@ -1,6 +1,6 @@
--- `fixed::set_slots` meets its contract, by the laws of `Slots` and `Left` of standard.
+-- `fixed::set_slots` meets its contract, by the laws of `Slots` and `Outcome` of standard.
 use mathlib.Core.Path.{sym, _∙_}
-use Rattle.standard.proofs.Left.{said}
+use Rattle.standard.proofs.Outcome.{said}
 use Rattle.settings.proofs.Settled.{target-told}
 use Rattle.settings.proofs.Slots.{slots-refused, slots-large, slots-done}
 use borrow.Author.Needs.{needs}

@@ -1,7 +1,7 @@
 -- `named::set_flag` meets its contract, by the laws of `Places`.
 use mathlib.Core.Path.{_∙_}
 use Rattle.bit_ops.proofs.Parts.{bit-byte}
-use Rattle.standard.proofs.Left.{said-as}
+use Rattle.standard.proofs.Outcome.{said-as}
 use Rattle.settings.proofs.Slots.{home-told}
 use Rattle.settings.proofs.Places.{flag-put}
 use borrow.Author.Needs.{needs}

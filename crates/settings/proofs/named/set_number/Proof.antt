@@ -1,6 +1,6 @@
 -- `named::set_number` meets its contract, by the laws of `Places`.
 use mathlib.Core.Path.{_∙_}
-use Rattle.standard.proofs.Left.{said-as}
+use Rattle.standard.proofs.Outcome.{said-as}
 use Rattle.settings.proofs.Slots.{home-told}
 use Rattle.settings.proofs.Places.{number-put}
 use borrow.Author.Needs.{needs}

@@ -1,5 +1,5 @@
 -- `named::set_pair` meets its contract, by the laws of `Places`.
-use Rattle.standard.proofs.Left.{said-as}
+use Rattle.standard.proofs.Outcome.{said-as}
 use Rattle.settings.proofs.Places.{pair-put}
 use borrow.Author.Needs.{needs}
 use Rattle.settings.proofs.named.set_pair.Statement.{statement}

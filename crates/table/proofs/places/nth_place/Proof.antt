@@ -1,5 +1,5 @@
 -- `places::nth_place` meets its contract, a slot at a time.
-use Rattle.laws.proofs.Bytes.{missed}
+use Rattle.laws.proofs.EachBelow.{missed}
 use Rattle.table.specs.Places.{everySlot}
 use Rattle.table.proofs.PlaceLaws.{past}
 use borrow.Author.Needs.{needs}

@@ -1,4 +1,4 @@
--- `text::by_byte::step`: a step from the place reached is the step from the place given.
+-- `text::by_byte::step` meets its contract. Invariant: the step from the current place is the step from the given place.
 use Prim.Native.Nat.{ℕ, _-_, _*_, _/_, _<_}
 use mathlib.Core.Path.{_≡_, refl, sym, _∙_}
 use mathlib.Core.List.{List}
@@ -21,20 +21,20 @@ Inv-loop words offset place₀ place = Sought words (14 - offset) place₀ place
 abbrev μ-loop : tie.MeasureT-loop
 μ-loop words offset place₀ place = length words / 4 * (14 - offset) - byteFrom (14 - offset) place
 
-ended-requires : tie.Need-ended-requires Inv-loop μ-loop
-ended-requires c κs = search needs
+end-at-requires : tie.Need-end-at-requires Inv-loop μ-loop
+end-at-requires c κs = search needs
 
 returns : tie.Need-returns Inv-loop μ-loop
-returns c = c .ended .ensures ∙ sym (step-over _ _ (c .before .before .before .args .at) (omega arith))
+returns c = c .end-at .ensures ∙ sym (step-over _ _ (c .before .before .before .args .at) (omega arith))
 
 sub-if2 : tie.Need-sub-if2 Inv-loop μ-loop
 sub-if2 c = search needs
 
-ended-requires-2 : tie.Need-ended-requires-2 Inv-loop μ-loop
-ended-requires-2 c κs = search needs
+end-at-requires-2 : tie.Need-end-at-requires-2 Inv-loop μ-loop
+end-at-requires-2 c κs = search needs
 
 returns-2 : tie.Need-returns-2 Inv-loop μ-loop
-returns-2 c = c .ended2 .ensures ∙ sym (step-over _ _ (c .before .before .before .before .before .args .at) (omega arith))
+returns-2 c = c .end-at2 .ensures ∙ sym (step-over _ _ (c .before .before .before .before .before .args .at) (omega arith))
 
 loop-holds : tie.Need-loop-holds Inv-loop μ-loop
 loop-holds c = record { low = omega arith; same = refl }
@@ -42,45 +42,45 @@ loop-holds c = record { low = omega arith; same = refl }
 text-byte-requires : tie.Need-text-byte-requires Inv-loop μ-loop
 text-byte-requires c κs = search needs
 
-sub-advanced : tie.Need-sub-advanced Inv-loop μ-loop
-sub-advanced c = search needs
+sub-next-place : tie.Need-sub-next-place Inv-loop μ-loop
+sub-next-place c = search needs
 
-advanced-requires : tie.Need-advanced-requires Inv-loop μ-loop
-advanced-requires c κs = (omega arith, omega arith)
+next-place-requires : tie.Need-next-place-requires Inv-loop μ-loop
+next-place-requires c κs = (omega arith, omega arith)
 
 returns-3 : tie.Need-returns-3 Inv-loop μ-loop
 returns-3 c =
     let l = c .before .before .before .before .before .loop in
     let is = c .before .before .text-byte .ensures ∙ byte-in _ _ (l .place) (c .before .before .before .if3 .taken) (l .inv .low) in
-    rw (is, c .before .advanced .ensures)
+    rw (is, c .before .next-place .ensures)
     (sym (l .inv .same ∙ step-byte _ _ (l .place) (c .before .before .before .if3 .taken) (l .inv .low) (λ e. c .if4 .taken (is ∙ e))))
 
 loop-less : tie.Need-loop-less Inv-loop μ-loop
 loop-less c =
     let a = c .before .before .before .before .before .before .before .before .before .before .args in
     let l = c .before .before .before .before .before .loop in
-    rw (c .before .advanced .ensures, next-back)
+    rw (c .before .next-place .ensures, next-back)
     (omega (arith, place-inside (14 - a .offset) (l .place) (l .inv .low) (length (a .words .now) / 4) (c .before .before .before .if3 .taken)))
 
 loop-again : tie.Need-loop-again Inv-loop μ-loop
 loop-again c =
     let l = c .before .before .before .before .before .loop in
-    rw (c .before .advanced .ensures)
+    rw (c .before .next-place .ensures)
     (record {
       low = next-low _ (l .place) (omega arith);
       same = l .inv .same ∙ step-zero _ _ (l .place) (c .before .before .before .if3 .taken) (l .inv .low) (sym (c .before .before .text-byte .ensures ∙ byte-in _ _ (l .place) (c .before .before .before .if3 .taken) (l .inv .low)) ∙ c .if4 .left);
     })
 
-ended-requires-3 : tie.Need-ended-requires-3 Inv-loop μ-loop
-ended-requires-3 c κs = search needs
+end-at-requires-3 : tie.Need-end-at-requires-3 Inv-loop μ-loop
+end-at-requires-3 c κs = search needs
 
 returns-4 : tie.Need-returns-4 Inv-loop μ-loop
-returns-4 c = c .ended3 .ensures ∙ sym (c .before .before .before .loop .inv .same ∙ step-past _ _ _ (c .before .if3 .left))
+returns-4 c = c .end-at3 .ensures ∙ sym (c .before .before .before .loop .inv .same ∙ step-past _ _ _ (c .before .if3 .left))
 
 pub step-spec : {M : Type 1} → statement M
 step-spec =
     tie.close
     (tie.spec
-    Inv-loop μ-loop ended-requires returns sub-if2 ended-requires-2 returns-2 loop-holds
-    text-byte-requires sub-advanced advanced-requires returns-3 loop-less loop-again
-    ended-requires-3 returns-4)
+    Inv-loop μ-loop end-at-requires returns sub-if2 end-at-requires-2 returns-2 loop-holds
+    text-byte-requires sub-next-place next-place-requires returns-3 loop-less loop-again
+    end-at-requires-3 returns-4)

@@ -1,4 +1,4 @@
--- `by_byte::text_byte` meets its contract, by the laws of `Pick` of laws.
+-- `by_byte::text_byte` meets its contract, by the laws of `Pick`.
 use Prim.Native.Nat.{_+_, _-_}
 use mathlib.Core.Path.{_≡_, refl}
 use native.Mathlib.Omega.{arith}
@@ -24,7 +24,7 @@ returns-3 c = past _ (lt-leb _ _ (c .before .before .if1 .left)) (here _ (le-leb
 
 returns-4 : tie.Need-returns-4
 unfolding byteAt textByte
-returns-4 c = let a = c .before .before .before .before .before .before .args in let e : a .at .byte .0 + 2 + a .offset ≡ 16 - (14 - a .offset) + a .at .byte .0 = omega arith in past _ (lt-leb _ _ (c .before .before .before .before .if1 .left)) (past _ (lt-leb _ _ (c .before .before .if3 .left)) (rw (← e) (c .octet .ensures)))
+returns-4 c = let a = c .before .before .before .before .before .before .args in let e : a .at .byte .0 + 2 + a .offset ≡ 16 - (14 - a .offset) + a .at .byte .0 = omega arith in past _ (lt-leb _ _ (c .before .before .before .before .if1 .left)) (past _ (lt-leb _ _ (c .before .before .if3 .left)) (rw (← e) (c .octet-of .ensures)))
 
 pub text-byte-spec : {M : Type 1} → statement M
 text-byte-spec =

@@ -7,7 +7,7 @@ use Rattle.settings.proofs.Slots.{facts}
 use Rattle.text_settings.proofs.Plans.{each-refused, each-large, each-done}
 use Rattle.text_settings.proofs.Rows.{set-each}
 use borrow.Author.Needs.{needs}
-use Rattle.standard.proofs.Left.{said, said-as}
+use Rattle.standard.proofs.Outcome.{said, said-as}
 use Rattle.text_settings.proofs.function_block_name.set_function_block.Statement.{
   statement,
 }

@@ -6,7 +6,7 @@ use Rattle.kinds.specs.Layout.{layout}
 use Rattle.text_settings.proofs.Rows.{textFacts, set-text}
 use Rattle.text_settings.proofs.Heads.{id-head}
 use borrow.Author.Needs.{needs}
-use Rattle.standard.proofs.Left.{said-as}
+use Rattle.standard.proofs.Outcome.{said-as}
 use Rattle.text_settings.proofs.product_instance_id.set_id.Statement.{statement}
 use Rattle.text_settings.proofs.product_instance_id.set_id.Tie as tie
 

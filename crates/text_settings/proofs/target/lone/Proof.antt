@@ -17,7 +17,7 @@ returns-2 c = past _ (le-ltb _ _ (c .before .before .if1 .left)) (here _ (ne-dif
 
 returns-3 : tie.Need-returns-3
 unfolding loneOf
-returns-3 c = past _ (le-ltb _ _ (c .before .before .before .if1 .left)) (past _ (eq-differ _ _ (c .before .if2 .left)) (c .plain-packet .ensures))
+returns-3 c = past _ (le-ltb _ _ (c .before .before .before .if1 .left)) (past _ (eq-differ _ _ (c .before .if2 .left)) (c .ascii-packet .ensures))
 
 pub lone-spec : {M : Type 1} → statement M
 lone-spec =

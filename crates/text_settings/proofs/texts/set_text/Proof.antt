@@ -2,7 +2,7 @@
 use mathlib.Core.Path.{sym, _∙_}
 use Rattle.text_settings.proofs.Plans.{text-refused, text-planless, text-done}
 use borrow.Author.Needs.{needs}
-use Rattle.standard.proofs.Left.{said}
+use Rattle.standard.proofs.Outcome.{said}
 use Rattle.text_settings.proofs.texts.set_text.Statement.{statement}
 use Rattle.text_settings.proofs.texts.set_text.Tie as tie
 

@@ -2,7 +2,7 @@
 use mathlib.Core.Path.{sym, _∙_}
 use Rattle.writing.proofs.Blank.{fresh-unknown, fresh-short, fresh-done}
 use borrow.Author.Needs.{needs}
-use Rattle.standard.proofs.Left.{said}
+use Rattle.standard.proofs.Outcome.{said}
 use Rattle.writing.proofs.fresh.fresh.Statement.{statement}
 use Rattle.writing.proofs.fresh.fresh.Tie as tie
 

@@ -1,7 +1,7 @@
 -- `write::write` meets its contract, by the laws of `Cases` and `Left` of standard.
 use mathlib.Core.Path.{sym, _∙_}
 use borrow.Author.Tests.{lt-ltb, le-ltb}
-use Rattle.standard.proofs.Left.{said}
+use Rattle.standard.proofs.Outcome.{said}
 use Rattle.writing.proofs.Cases.{write-text, fixed-kind, text-told, fits-told, write-large, write-short, write-done}
 use borrow.Author.Needs.{needs}
 use Rattle.writing.proofs.write.write.Statement.{statement}
