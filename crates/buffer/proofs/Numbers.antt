@@ -9,7 +9,7 @@ use lib.ListN.{length, getD, drop, drop-of-length-le}
 use lib.Seq.{drop-cons}
 use borrow.Author.Tests.{lt-ltb, le-ltb}
 use Rattle.laws.specs.Pick.{both}
-use Rattle.buffer.specs.Filling.{putIn, putSeptets, fillSeptets, areSeptets}
+use Rattle.buffer.specs.Acts.{putIn, putSeptets, fillSeptets, areSeptets}
 
 module _ (xs : List ℕ) (i : ℕ) where
   pub septet-good : i < length xs → getD xs i 0 ≤ 127 → areSeptets (drop (i + 1) xs) ≡ areSeptets (drop i xs)

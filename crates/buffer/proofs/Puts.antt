@@ -11,7 +11,7 @@ use Rattle.laws.specs.Bits.{putField}
 use Rattle.laws.proofs.Bits.{put-lt}
 use Rattle.text.specs.Written.{written, eachFirst}
 use Rattle.slots.specs.Slots.{Slot, put, putAll, fits, bitsWithin}
-use Rattle.buffer.specs.Filling.{putIfFits, putIn, putEach, formatted, fillText, putIns}
+use Rattle.buffer.specs.Acts.{putIfFits, putIn, putEach, formatted, fillText, putIns}
 
 module _ (w at span v : ℕ) where
   pub put-fitting : at + span ≤ 32 → v < 2 ^ span → putIfFits w at span v ≡ putField w at span v

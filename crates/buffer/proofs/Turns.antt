@@ -15,7 +15,7 @@ use Rattle.laws.proofs.Pick.{below}
 use Rattle.laws.proofs.Lists.{length-upTo, upTo-more, upTo-below, upTo-rest, upTo-kept}
 use Rattle.text.specs.Written.{wordIn, wordNew, wholeWords, blank}
 use Rattle.text.proofs.Written.{word-packet}
-use Rattle.buffer.specs.Filling.{setFour, clearFrom}
+use Rattle.buffer.specs.Acts.{setFour, clearFrom}
 
 pub record Filled (i : ℕ) (f : ℕ → ℕ) (found ws : List ℕ) : Type 0 where
   pub long : length ws ≡ length found

@@ -2,7 +2,7 @@
 ghost use mathlib.Core.Path.{_≡_};
 ghost use Prim.Native.Nat.{_≤_};
 ghost use Rattle.text.specs.Written.{wholeWords, blank};
-ghost use Rattle.buffer.specs.Filling.{clearFrom};
+ghost use Rattle.buffer.specs.Acts.{clearFrom};
 
 // Clears every word from word `from` on, up to the end of the last whole packet.
 pub(crate) fn clear_from(words: &mut [u32], from: usize)

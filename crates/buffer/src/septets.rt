@@ -2,7 +2,7 @@
 ghost use mathlib.Core.Path.{_≡_};
 ghost use Prim.Native.Nat.{_+_, _≤_};
 ghost use lib.ListN.{length};
-ghost use Rattle.buffer.specs.Filling.{putSeptets, fillSeptets, areSeptets};
+ghost use Rattle.buffer.specs.Acts.{putSeptets, fillSeptets, areSeptets};
 use crate::fields::put_field;
 
 // Whether each number has at most seven bits.

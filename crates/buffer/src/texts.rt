@@ -6,7 +6,7 @@ ghost use Rattle.laws.specs.Bits.{wordOf};
 ghost use Rattle.laws.specs.Lists.{upTo};
 ghost use Rattle.text.specs.Octets.{dueFormat};
 ghost use Rattle.text.specs.Written.{octetAt, wordIn, wordNew};
-ghost use Rattle.buffer.specs.Filling.{setFour, formatted, fillText};
+ghost use Rattle.buffer.specs.Acts.{setFour, formatted, fillText};
 use crate::fields::with_field;
 use crate::packets::clear_from;
 use counts::PacketNumber;

@@ -23,7 +23,7 @@ use Rattle.records.specs.Settings.{tooLarge}
 use Rattle.standard.specs.Heads.{packetsOf}
 use Rattle.standard.specs.Walk.{walkOf}
 use Rattle.standard.specs.Words.{outcome, unchanged, missing, answerTo, actIn, setOn}
-use Rattle.buffer.specs.Filling.{putIn, putIns}
+use Rattle.buffer.specs.Acts.{putIn, putIns}
 use Rattle.table.specs.Places.{slotAt}
 use Rattle.numbers.specs.BySlot.{fitFrom, putFrom}
 use Rattle.buffer.proofs.Puts.{ins-put}

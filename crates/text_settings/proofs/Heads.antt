@@ -10,7 +10,7 @@ use Rattle.kinds.specs.declared.kind.Kind.the-variants as K
 use Rattle.kinds.specs.Fields.{Field, joined, partOf, same, decided}
 use Rattle.kinds.specs.Layout.{layout, held, valuesIn}
 use Rattle.standard.specs.Words.{putWord, headOf}
-use Rattle.buffer.specs.Filling.{formatted}
+use Rattle.buffer.specs.Acts.{formatted}
 use Rattle.text_settings.specs.Texts.{upperOf, blockHead}
 
 module _ (v : Field → List ℕ) (format : ℕ) where

@@ -18,7 +18,7 @@ use Rattle.records.specs.declared.answers.Answer.the-variants as A
 use Rattle.standard.specs.Heads.{packetsOf}
 use Rattle.standard.specs.Walk.{walkOf}
 use Rattle.standard.specs.Words.{outcome, unchanged}
-use Rattle.buffer.specs.Filling.{putEach, fillText}
+use Rattle.buffer.specs.Acts.{putEach, fillText}
 use Rattle.settings.specs.declared.target.Target.the-variants as T
 use Rattle.settings.specs.Target.{targetOf}
 use Rattle.settings.proofs.Settled.{settled-refused, settled-own}

@@ -24,7 +24,7 @@ use Rattle.standard.specs.Heads.{packetsOf}
 use Rattle.standard.specs.Reading.{isBad}
 use Rattle.standard.specs.Walk.{walkOf}
 use Rattle.standard.specs.Words.{outcome, missing, answerTo, actIn, putWord, headOf, setOn}
-use Rattle.buffer.specs.Filling.{putEach, formatted, fillText}
+use Rattle.buffer.specs.Acts.{putEach, formatted, fillText}
 use Rattle.buffer.proofs.Puts.{each-put, text-filled}
 use Rattle.settings.specs.declared.target.Target.{Target}
 use Rattle.settings.specs.declared.target.Target.the-variants as T

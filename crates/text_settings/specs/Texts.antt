@@ -19,7 +19,7 @@ use Rattle.standard.specs.Heads.{headWord, packetsOf}
 use Rattle.standard.specs.Reading.{isBad}
 use Rattle.standard.specs.Walk.{walkOf}
 use Rattle.standard.specs.Words.{Outcome, outcome, unchanged}
-use Rattle.buffer.specs.Filling.{putEach, fillText}
+use Rattle.buffer.specs.Acts.{putEach, fillText}
 use Rattle.settings.specs.Target.{targetOf, settled}
 use Rattle.settings.specs.Fixed.{fitted}
 use Rattle.text_settings.specs.declared.texts.Plan.{Plan}

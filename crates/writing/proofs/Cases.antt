@@ -24,7 +24,7 @@ use Rattle.records.specs.declared.message.Message.{Message}
 use Rattle.records.specs.declared.answers.Answer.the-variants as A
 use Rattle.records.specs.Records.{kindIn, valuesOf}
 use Rattle.standard.specs.Heads.{headWord}
-use Rattle.buffer.specs.Filling.{putIns}
+use Rattle.buffer.specs.Acts.{putIns}
 use Rattle.standard.specs.Words.{outcome, unchanged, encodeIn, encode, writeOn}
 use Rattle.buffer.proofs.Puts.{ins-put}
 use Rattle.writing.specs.Put.{putRecord}

@@ -6,7 +6,7 @@ use lib.ListN.{length}
 use borrow.Author.Tests.{lt-ltb, le-ltb}
 use Rattle.laws.proofs.Pick.{here, past}
 use Rattle.text.specs.Written.{eachFirst}
-use Rattle.buffer.specs.Filling.{putIfFits, putEach}
+use Rattle.buffer.specs.Acts.{putIfFits, putEach}
 use Rattle.buffer.proofs.Turns.{Filled, firsts, none-filled, packet-filled, all-filled}
 use borrow.Author.Needs.{needs}
 use Rattle.buffer.proofs.fields.put_each.Statement.{statement}

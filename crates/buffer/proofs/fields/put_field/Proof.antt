@@ -1,7 +1,7 @@
 -- `fields::put_field` meets its contract, by its definition.
 use mathlib.Core.Path.{sym}
 use lib.Seq.{set-out}
-use Rattle.buffer.specs.Filling.{putIn}
+use Rattle.buffer.specs.Acts.{putIn}
 use borrow.Author.Needs.{needs}
 use Rattle.buffer.proofs.fields.put_field.Statement.{statement}
 use Rattle.buffer.proofs.fields.put_field.Tie as tie

@@ -6,7 +6,7 @@ use lib.ListN.{length, getD}
 use lib.Dec.{ltb}
 use borrow.Author.Tests.{lt-ltb, le-ltb}
 use Rattle.laws.specs.Pick.{pick}
-use Rattle.buffer.specs.Filling.{clearFrom}
+use Rattle.buffer.specs.Acts.{clearFrom}
 use Rattle.buffer.proofs.Turns.{Filled, found-filled, more-filled, all-filled}
 use borrow.Author.Needs.{needs}
 use Rattle.buffer.proofs.packets.clear_from.Statement.{statement}

@@ -3,7 +3,7 @@ use Prim.Native.Nat.{_≤_, _-_}
 use mathlib.Core.Path.{_≡_, refl, _∙_}
 use native.Mathlib.Omega.{arith}
 use lib.ListN.{length, drop}
-use Rattle.buffer.specs.Filling.{areSeptets}
+use Rattle.buffer.specs.Acts.{areSeptets}
 use Rattle.buffer.proofs.Numbers.{septet-good, septet-bad, septets-done}
 use borrow.Author.Needs.{needs}
 use Rattle.buffer.proofs.septets.are_septets.Statement.{statement}

@@ -1,5 +1,5 @@
 -- `septets::put_each_septet` meets its contract, by the laws of `Numbers`, turn by turn.
-use Rattle.buffer.specs.Filling.{putIn, putSeptets}
+use Rattle.buffer.specs.Acts.{putIn, putSeptets}
 use Prim.Native.Nat.{_≤_, _+_}
 use mathlib.Core.Path.{_≡_, refl, sym, ap, _∙_}
 use native.Mathlib.Omega.{arith}

@@ -1,6 +1,6 @@
 -- `texts::fill_any_packet` meets its contract, by the laws of `Rewritten`.
 use Prim.Native.Nat.{_-_}
-use Rattle.buffer.specs.Filling.{formatted}
+use Rattle.buffer.specs.Acts.{formatted}
 use native.Mathlib.Omega.{arith}
 use lib.ListN.{length-set}
 use Rattle.text.proofs.Rewritten.{word-past}

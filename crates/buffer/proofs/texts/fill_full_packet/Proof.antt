@@ -2,7 +2,7 @@
 use Prim.Native.Nat.{_+_, _-_, _*_}
 use native.Mathlib.Omega.{arith}
 use lib.ListN.{length-set}
-use Rattle.buffer.specs.Filling.{formatted}
+use Rattle.buffer.specs.Acts.{formatted}
 use Rattle.buffer.proofs.Octets.{later-part}
 use borrow.Author.Needs.{needs}
 use Rattle.buffer.proofs.texts.fill_full_packet.Statement.{statement}

@@ -5,7 +5,7 @@ use native.Mathlib.Omega.{arith}
 use native.Mathlib.Numerals.{add-one}
 use native.Mathlib.Nat.{suc-mul}
 use Rattle.text.specs.Written.{wordNew}
-use Rattle.buffer.specs.Filling.{formatted}
+use Rattle.buffer.specs.Acts.{formatted}
 use Rattle.buffer.proofs.Octets.{product}
 use Rattle.buffer.proofs.Turns.{Filled, none-filled, text-more}
 use borrow.Author.Needs.{needs}

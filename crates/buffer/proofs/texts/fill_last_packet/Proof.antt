@@ -4,7 +4,7 @@ use mathlib.Core.Path.{refl, sym}
 use native.Mathlib.Omega.{arith}
 use native.Mathlib.Nat.{add-zero}
 use lib.ListN.{length-set}
-use Rattle.buffer.specs.Filling.{formatted}
+use Rattle.buffer.specs.Acts.{formatted}
 use Rattle.buffer.proofs.Octets.{product, later-text}
 use borrow.Author.Needs.{needs}
 use Rattle.buffer.proofs.texts.fill_last_packet.Statement.{statement}

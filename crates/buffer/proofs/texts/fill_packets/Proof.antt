@@ -2,7 +2,7 @@
 use Prim.Native.Nat.{_≤_, _-_, _*_}
 use native.Mathlib.Omega.{arith}
 use Rattle.text.specs.Written.{wordNew}
-use Rattle.buffer.specs.Filling.{formatted}
+use Rattle.buffer.specs.Acts.{formatted}
 use Rattle.buffer.proofs.Turns.{Filled, none-filled, text-more, all-filled}
 use borrow.Author.Needs.{needs}
 use Rattle.buffer.proofs.texts.fill_packets.Statement.{statement}

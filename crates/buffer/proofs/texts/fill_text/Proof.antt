@@ -6,7 +6,7 @@ use borrow.Author.Tests.{lt-ltb, le-ltb, le-leb, lt-leb}
 use Rattle.laws.proofs.Pick.{here, past}
 use Rattle.text.specs.Written.{written, wordNew}
 use Rattle.text.proofs.Written.{word-zero}
-use Rattle.buffer.specs.Filling.{clearFrom, formatted, fillText}
+use Rattle.buffer.specs.Acts.{clearFrom, formatted, fillText}
 use Rattle.buffer.proofs.Turns.{clear-rest}
 use borrow.Author.Needs.{needs}
 use Rattle.buffer.proofs.texts.fill_text.Statement.{statement}

@@ -1,8 +1,8 @@
--- `device_identity::set_software_version` meets its contract, by the laws of `Slots` and `Left` of standard.
+-- `device_identity::set_software_version` meets its contract, by the laws of `Slots` and `Outcome` of standard.
 use mathlib.Core.Path.{refl}
 use Rattle.slots.specs.Slots.{fits}
 use Rattle.kinds.specs.declared.kind.Kind.the-variants as K
-use Rattle.buffer.specs.Filling.{putIns}
+use Rattle.buffer.specs.Acts.{putIns}
 use Rattle.numbers.specs.BySlot.{fitFrom, putFrom}
 use Rattle.settings.proofs.Slots.{facts, set-slots}
 use borrow.Author.Needs.{needs}

@@ -1,4 +1,4 @@
--- `endpoint_name::set_name` meets its contract, by the laws of `Rows`, `Heads` and `Left` of standard.
+-- `endpoint_name::set_name` meets its contract, by the laws of `Rows`, `Heads` and `Outcome` of standard.
 use mathlib.Core.Path.{refl}
 use lib.Dec.{lit≤}
 use Rattle.kinds.specs.declared.kind.Kind.the-variants as K

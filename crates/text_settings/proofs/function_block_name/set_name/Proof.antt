@@ -1,4 +1,4 @@
--- `function_block_name::set_name` meets its contract, by the laws of `Rows`, `Heads` and `Left` of standard.
+-- `function_block_name::set_name` meets its contract, by the laws of `Rows`, `Heads` and `Outcome` of standard.
 use mathlib.Core.Path.{refl}
 use native.Mathlib.Omega.{arith}
 use lib.Dec.{lit≤}

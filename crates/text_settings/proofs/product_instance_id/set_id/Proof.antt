@@ -1,4 +1,4 @@
--- `product_instance_id::set_id` meets its contract, by the laws of `Rows`, `Heads` and `Left` of standard.
+-- `product_instance_id::set_id` meets its contract, by the laws of `Rows`, `Heads` and `Outcome` of standard.
 use mathlib.Core.Path.{refl}
 use lib.Dec.{lit≤}
 use Rattle.kinds.specs.declared.kind.Kind.the-variants as K

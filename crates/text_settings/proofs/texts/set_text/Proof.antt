@@ -1,4 +1,4 @@
--- `texts::set_text` meets its contract, by the laws of `Plans` and `Left` of standard.
+-- `texts::set_text` meets its contract, by the laws of `Plans` and `Outcome` of standard.
 use mathlib.Core.Path.{sym, _∙_}
 use Rattle.text_settings.proofs.Plans.{text-refused, text-planless, text-done}
 use borrow.Author.Needs.{needs}

@@ -1,4 +1,4 @@
--- `write::write` meets its contract, by the laws of `Cases` and `Left` of standard.
+-- `write::write` meets its contract, by the laws of `Cases` and `Outcome` of standard.
 use mathlib.Core.Path.{sym, _∙_}
 use borrow.Author.Tests.{lt-ltb, le-ltb}
 use Rattle.standard.proofs.Outcome.{said}
