@@ -1,3 +1,4 @@
 pub mod Turns
+pub mod FramedRead
 pub mod Stands
 pub mod Visits
