@@ -1,8 +1,10 @@
 // Walks a stream of words: what stands at a position (the end, another type, a message or a refusal), and where the next one starts.
 ghost use mathlib.Core.Path.{_≡_};
 ghost use Prim.Native.Nat.{_<_};
+ghost use lib.Dec.{eqb};
 ghost use lib.ListN.{length};
 ghost use Rattle.standard.specs.Walk.{sizeOf, stepOf, frameOf, walkedOf, framedOf, otherOf, walkOf};
+ghost use Rattle.walking.specs.Other.{otherSize};
 use counts::PacketNumber;
 use counts::WordNumber;
 use kinds::refusal::Refusal;
@@ -78,6 +80,38 @@ fn frame(words: &[u32], pos: usize) -> Framed
         at += 4;
     }
     Framed::Broken(Refusal::TooManyPackets)
+}
+
+// Whether this type has one word (0, 1, 2, 6 or 7): one bit test for all five.
+fn is_one_word(ump_type: u32) -> bool
+    ensures { λ r. ⌜ r ≡ eqb (sizeOf «ump_type») 1 ⌝ }
+{
+    if ump_type < 16 {
+        return (0b1100_0111u32 >> ump_type) % 2 == 1;
+    }
+    false
+}
+
+// Fast path of stepping over another type: the words of its message if all are there, and 0 for any other answer of the walk.
+pub fn other_size(words: &[u32], position: WordNumber) -> usize
+    ensures { λ r. ⌜ r ≡ otherSize (now (words .entry)) (position .0) ⌝ }
+{
+    let pos = position.0;
+    if words.len() <= pos {
+        return 0;
+    }
+    let ump_type = type_of(words[pos]) as u32;
+    if is_one_word(ump_type) {
+        return 1;
+    }
+    if ump_type == 15 {
+        return 0;
+    }
+    let size = size_of(ump_type);
+    if words.len() - pos < size {
+        return 0;
+    }
+    size
 }
 
 // A message of another type, or refusal 1 if some of its words are missing.
