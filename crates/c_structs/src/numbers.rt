@@ -26,7 +26,7 @@ pub struct Numbers {
     pub ninth: u32,
 }
 
-fn of_endpoint_discovery(e: EndpointDiscovery) -> Numbers
+pub fn of_endpoint_discovery(e: EndpointDiscovery) -> Numbers
     ensures { λ r. ⌜ r ≡ crossed (M.EndpointDiscovery e) ⌝ }
 {
     Numbers {
@@ -44,7 +44,7 @@ fn of_endpoint_discovery(e: EndpointDiscovery) -> Numbers
     }
 }
 
-fn of_endpoint_info(e: EndpointInfo) -> Numbers
+pub fn of_endpoint_info(e: EndpointInfo) -> Numbers
     ensures { λ r. ⌜ r ≡ crossed (M.EndpointInfo e) ⌝ }
 {
     Numbers {
@@ -62,7 +62,7 @@ fn of_endpoint_info(e: EndpointInfo) -> Numbers
     }
 }
 
-fn of_device_identity(e: DeviceIdentity) -> Numbers
+pub fn of_device_identity(e: DeviceIdentity) -> Numbers
     ensures { λ r. ⌜ r ≡ crossed (M.DeviceIdentity e) ⌝ }
 {
     Numbers {
@@ -80,7 +80,7 @@ fn of_device_identity(e: DeviceIdentity) -> Numbers
     }
 }
 
-fn of_function_block_info(e: FunctionBlockInfo) -> Numbers
+pub fn of_function_block_info(e: FunctionBlockInfo) -> Numbers
     ensures { λ r. ⌜ r ≡ crossed (M.FunctionBlockInfo e) ⌝ }
 {
     let hint = e.ui_hint;
@@ -102,7 +102,7 @@ fn of_function_block_info(e: FunctionBlockInfo) -> Numbers
 }
 
 // A text kind: its packets, and the number of a block name.
-fn of_text(status: u32, packets: usize, number: u32) -> Numbers
+pub fn of_text(status: u32, packets: usize, number: u32) -> Numbers
     ensures { λ r. ⌜ r ≡ lone status packets number ⌝ }
 {
     Numbers {

@@ -8,9 +8,6 @@ ghost use Rattle.standard.specs.Words.{freshOn};
 ghost use Rattle.c_structs.specs.Crossed.{answered, readCrossed, walkCrossed, packetCrossed, sizeCrossed, stepCrossed};
 ghost use Rattle.listing.specs.Listed.{Listed};
 ghost use Rattle.frayedbin.specs.Calls.{placeAt, writeIn};
-use counts::PacketNumber;
-use counts::TextByteNumber;
-use counts::WordNumber;
 use c_structs::answers::Answered;
 use c_structs::answers::PacketAnswer;
 use c_structs::answers::RecordAnswer;
@@ -18,18 +15,32 @@ use c_structs::answers::SizeAnswer;
 use c_structs::answers::StepAnswer;
 use c_structs::answers::WalkAnswer;
 use c_structs::answers::of_answer;
+use c_structs::answers::of_end;
+use c_structs::answers::of_found;
+use c_structs::answers::of_other;
 use c_structs::answers::of_packet;
 use c_structs::answers::of_read;
 use c_structs::answers::of_refusal;
 use c_structs::answers::of_size;
 use c_structs::answers::of_step;
-use c_structs::answers::of_walked;
+use c_structs::answers::of_walk_refused;
 use c_structs::given::Given;
 use c_structs::given::of_numbers;
 use c_structs::numbers::Numbers;
+use c_structs::numbers::of_device_identity;
+use c_structs::numbers::of_endpoint_discovery;
+use c_structs::numbers::of_endpoint_info;
+use c_structs::numbers::of_function_block_info;
+use c_structs::numbers::of_text;
+use counts::PacketNumber;
+use counts::TextByteNumber;
+use counts::WordNumber;
 use reading::by_byte;
+use reading::heads::type_of;
 use reading::message;
 use reading::packet;
+use records::answers::Walked;
+use records::message::Message;
 use text::TextPlace;
 
 #[no_mangle]
@@ -39,11 +50,39 @@ pub extern "C" fn frayedbin_read(words: &[u32]) -> RecordAnswer
     of_read(message::read(words))
 }
 
+// Fast path: another type is answered from its size alone. Each case returns by itself, so that its numbers go straight into the answer.
 #[no_mangle]
 pub extern "C" fn frayedbin_walk(words: &[u32], position: usize) -> WalkAnswer
     ensures { λ r. ⌜ r ≡ walkCrossed (walkOf (now (words .entry)) position) ⌝ }
 {
-    of_walked(walking::walk(words, WordNumber(position)))
+    let size = walking::other_size(words, WordNumber(position));
+    if size != 0 {
+        return of_other(type_of(words[position]) as u32, size, position + size);
+    }
+    match walking::walk(&words[0..], WordNumber(position)) {
+        Walked::End => return of_end(),
+        Walked::Other {
+            ump_type,
+            size,
+            next,
+        } => return of_other(ump_type, size.0, next.0),
+        Walked::Refused { refusal, next } => return of_walk_refused(refusal, next.0),
+        Walked::Message { message, next } => match message {
+            Message::EndpointDiscovery(e) => return of_found(of_endpoint_discovery(e), next.0),
+            Message::EndpointInfo(e) => return of_found(of_endpoint_info(e), next.0),
+            Message::DeviceIdentity(e) => return of_found(of_device_identity(e), next.0),
+            Message::EndpointName(packets) => return of_found(of_text(0x03, packets.0, 0), next.0),
+            Message::ProductInstanceId(packets) => return of_found(
+                of_text(0x04, packets.0, 0),
+                next.0,
+            ),
+            Message::FunctionBlockInfo(e) => return of_found(of_function_block_info(e), next.0),
+            Message::FunctionBlockName {
+                function_block,
+                packets,
+            } => return of_found(of_text(0x12, packets.0, function_block as u32), next.0),
+        },
+    }
 }
 
 #[no_mangle]
