@@ -42,11 +42,15 @@ abbrev pub readCrossed : Read → RecordAnswer
 readCrossed (R.Message m) = withRecord m
 readCrossed (R.Refused r) = withRefusal r noNumbers
 
+-- a message that the walk found, by its numbers
+abbrev pub foundCrossed : Numbers → ℕ → WalkAnswer
+foundCrossed c next = record { found = 2; refusal = 0; place = 0; «ump_type» = 0; size = 0; next = next; numbers = c }
+
 -- 0 the end, 1 another type, 2 a message, 3 a refusal
 abbrev pub walkCrossed : Walked → WalkAnswer
 walkCrossed W.End = record { found = 0; refusal = 0; place = 0; «ump_type» = 0; size = 0; next = 0; numbers = noNumbers }
 walkCrossed (W.Other t size next) = record { found = 1; refusal = 0; place = 0; «ump_type» = t; size = size .0; next = next .0; numbers = noNumbers }
-walkCrossed (W.Message m next) = record { found = 2; refusal = 0; place = 0; «ump_type» = 0; size = 0; next = next .0; numbers = asNumbers m }
+walkCrossed (W.Message m next) = foundCrossed (asNumbers m) (next .0)
 walkCrossed (W.Refused r next) = record { found = 3; refusal = refusalNumber r; place = refusalPlace r; «ump_type» = 0; size = 0; next = next .0; numbers = noNumbers }
 
 abbrev pub packetCrossed : PacketRead → PacketAnswer

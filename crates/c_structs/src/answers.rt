@@ -1,7 +1,9 @@
 // Answers as structs of numbers. A refusal's number is 0 where nothing was refused.
 ghost use mathlib.Core.Path.{_≡_};
+ghost use Rattle.counts.specs.Counts.{word};
 ghost use Rattle.records.specs.declared.answers.Answer.{Answer};
-ghost use Rattle.c_structs.specs.Crossed.{answered, withRefusal, readCrossed, walkCrossed, packetCrossed, sizeCrossed, byteCrossed, stepCrossed, editedCrossed};
+ghost use Rattle.records.specs.declared.answers.Walked.the-variants as W;
+ghost use Rattle.c_structs.specs.Crossed.{answered, withRefusal, readCrossed, foundCrossed, walkCrossed, packetCrossed, sizeCrossed, byteCrossed, stepCrossed, editedCrossed};
 use kinds::choices::format_code;
 use kinds::refusal::Refusal;
 use kinds::refusal::refusal_number;
@@ -15,7 +17,6 @@ use records::answers::Edited;
 use records::answers::MessageSize;
 use records::answers::PacketRead;
 use records::answers::Read;
-use records::answers::Walked;
 use text::Stepped;
 use text::TextStep;
 
@@ -115,50 +116,61 @@ pub fn of_read(read: Read) -> RecordAnswer
     }
 }
 
-pub fn of_walked(walked: Walked) -> WalkAnswer
-    ensures { λ r. ⌜ r ≡ walkCrossed walked ⌝ }
+// The walk's answers, a function for each: frayedbin_walk fills the struct in the case at hand.
+pub fn of_end() -> WalkAnswer
+    ensures { λ r. ⌜ r ≡ walkCrossed W.End ⌝ }
 {
-    match walked {
-        Walked::End => WalkAnswer {
-            found: 0,
-            refusal: 0,
-            place: 0,
-            ump_type: 0,
-            size: 0,
-            next: 0,
-            numbers: no_numbers(),
-        },
-        Walked::Other {
-            ump_type,
-            size,
-            next,
-        } => WalkAnswer {
-            found: 1,
-            refusal: 0,
-            place: 0,
-            ump_type,
-            size: size.0,
-            next: next.0,
-            numbers: no_numbers(),
-        },
-        Walked::Message { message, next } => WalkAnswer {
-            found: 2,
-            refusal: 0,
-            place: 0,
-            ump_type: 0,
-            size: 0,
-            next: next.0,
-            numbers: numbers_of(message),
-        },
-        Walked::Refused { refusal, next } => WalkAnswer {
-            found: 3,
-            refusal: refusal_number(refusal),
-            place: refusal_place(refusal),
-            ump_type: 0,
-            size: 0,
-            next: next.0,
-            numbers: no_numbers(),
-        },
+    WalkAnswer {
+        found: 0,
+        refusal: 0,
+        place: 0,
+        ump_type: 0,
+        size: 0,
+        next: 0,
+        numbers: no_numbers(),
+    }
+}
+
+pub fn of_other(ump_type: u32, size: usize, next: usize) -> WalkAnswer
+    ensures { λ r. ⌜ r ≡ walkCrossed (W.Other «ump_type» (word size) (word next)) ⌝ }
+{
+    WalkAnswer {
+        found: 1,
+        refusal: 0,
+        place: 0,
+        ump_type,
+        size,
+        next,
+        numbers: no_numbers(),
+    }
+}
+
+// A message, whose numbers the functions of `numbers` give.
+pub fn of_found(numbers: Numbers, next: usize) -> WalkAnswer
+    ensures { λ r. ⌜ r ≡ foundCrossed numbers next ⌝ }
+{
+    WalkAnswer {
+        found: 2,
+        refusal: 0,
+        place: 0,
+        ump_type: 0,
+        size: 0,
+        next,
+        numbers,
+    }
+}
+
+pub fn of_walk_refused(refusal: Refusal, next: usize) -> WalkAnswer
+    ensures { λ r. ⌜ r ≡ walkCrossed (W.Refused refusal (word next)) ⌝ }
+{
+    WalkAnswer {
+        found: 3,
+        refusal: refusal_number(refusal),
+        place: refusal_place(refusal),
+        ump_type: 0,
+        size: 0,
+        next,
+        numbers: no_numbers(),
     }
 }
 

@@ -15,21 +15,27 @@ use c_structs::answers::SizeAnswer;
 use c_structs::answers::StepAnswer;
 use c_structs::answers::WalkAnswer;
 use c_structs::answers::of_answer;
+use c_structs::answers::of_end;
+use c_structs::answers::of_found;
+use c_structs::answers::of_other;
 use c_structs::answers::of_packet;
 use c_structs::answers::of_read;
 use c_structs::answers::of_refusal;
 use c_structs::answers::of_size;
 use c_structs::answers::of_step;
-use c_structs::answers::of_walked;
+use c_structs::answers::of_walk_refused;
 use counts::PacketNumber;
 use counts::TextByteNumber;
 use counts::WordNumber;
 use numbers::Numbers;
+use numbers::of_record::numbers_of;
 use numbers::to_record::FromNumbers;
 use numbers::to_record::record_from;
 use reading::by_byte;
+use reading::heads::type_of;
 use reading::message;
 use reading::packet;
+use records::answers::Walked;
 use text::TextPlace;
 
 #[no_mangle]
@@ -39,11 +45,25 @@ pub extern "C" fn frayedbin_read(words: &[u32]) -> RecordAnswer
     of_read(message::read(words))
 }
 
+// Fast path: another type is answered from its size alone. Each case returns by itself, so that its numbers go straight into the answer.
 #[no_mangle]
 pub extern "C" fn frayedbin_walk(words: &[u32], position: usize) -> WalkAnswer
     ensures { λ r. ⌜ r ≡ walkCrossed (walkOf (now (words .entry)) position) ⌝ }
 {
-    of_walked(walking::walk(words, WordNumber(position)))
+    let size = walking::other_size(words, WordNumber(position));
+    if size != 0 {
+        return of_other(type_of(words[position]) as u32, size, position + size);
+    }
+    match walking::walk(&words[0..], WordNumber(position)) {
+        Walked::End => return of_end(),
+        Walked::Other {
+            ump_type,
+            size,
+            next,
+        } => return of_other(ump_type, size.0, next.0),
+        Walked::Refused { refusal, next } => return of_walk_refused(refusal, next.0),
+        Walked::Message { message, next } => return of_found(numbers_of(message), next.0),
+    }
 }
 
 #[no_mangle]

@@ -4,12 +4,12 @@ ghost use Rattle.kinds.specs.Fields.{Pair, Setting};
 ghost use Rattle.standard.specs.Words.{setOn};
 ghost use Rattle.c_structs.specs.Crossed.{answered};
 ghost use Rattle.frayedbin.specs.Calls.{setIn};
+use crate::named::pair_on;
 use c_structs::answers::Answered;
 use c_structs::answers::RecordAnswer;
 use c_structs::answers::of_answer;
 use c_structs::answers::of_edited;
 use c_structs::answers::refused_record;
-use crate::named::pair_on;
 use numbers::Numbers;
 use numbers::to_record::FromNumbers;
 use numbers::to_record::record_from;
@@ -103,7 +103,10 @@ pub extern "C" fn frayedbin_record_set_device_family_model_number(
     ensures { λ r. ⌜ r ≡ setIn (λ m. Setting.pair Pair.device-family-model-number model) «record» ⌝ }
 {
     match record_from(record) {
-        FromNumbers::Message(message) => of_edited(message.set_device_family_model_number(model), record),
+        FromNumbers::Message(message) => of_edited(
+            message.set_device_family_model_number(model),
+            record,
+        ),
         FromNumbers::Refused(refusal) => refused_record(refusal, record),
     }
 }

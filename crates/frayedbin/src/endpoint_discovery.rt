@@ -4,12 +4,12 @@ ghost use Rattle.kinds.specs.Fields.{Flag, Number, Setting};
 ghost use Rattle.standard.specs.Words.{setOn};
 ghost use Rattle.c_structs.specs.Crossed.{answered};
 ghost use Rattle.frayedbin.specs.Calls.{setIn};
+use crate::named::flag_on;
+use crate::named::number_on;
 use c_structs::answers::Answered;
 use c_structs::answers::RecordAnswer;
 use c_structs::answers::of_edited;
 use c_structs::answers::refused_record;
-use crate::named::flag_on;
-use crate::named::number_on;
 use numbers::Numbers;
 use numbers::to_record::FromNumbers;
 use numbers::to_record::record_from;
@@ -142,7 +142,10 @@ pub extern "C" fn frayedbin_record_set_request_product_instance_id(
     ensures { λ r. ⌜ r ≡ setIn (λ m. Setting.flag Flag.request-product-instance-id on) «record» ⌝ }
 {
     match record_from(record) {
-        FromNumbers::Message(message) => of_edited(message.set_request_product_instance_id(on), record),
+        FromNumbers::Message(message) => of_edited(
+            message.set_request_product_instance_id(on),
+            record,
+        ),
         FromNumbers::Refused(refusal) => refused_record(refusal, record),
     }
 }
@@ -155,7 +158,10 @@ pub extern "C" fn frayedbin_record_set_request_stream_configuration(
     ensures { λ r. ⌜ r ≡ setIn (λ m. Setting.flag Flag.request-stream-configuration on) «record» ⌝ }
 {
     match record_from(record) {
-        FromNumbers::Message(message) => of_edited(message.set_request_stream_configuration(on), record),
+        FromNumbers::Message(message) => of_edited(
+            message.set_request_stream_configuration(on),
+            record,
+        ),
         FromNumbers::Refused(refusal) => refused_record(refusal, record),
     }
 }

@@ -4,12 +4,12 @@ ghost use Rattle.kinds.specs.Fields.{Flag, Number, Setting};
 ghost use Rattle.standard.specs.Words.{setOn};
 ghost use Rattle.c_structs.specs.Crossed.{answered};
 ghost use Rattle.frayedbin.specs.Calls.{setIn};
+use crate::named::flag_on;
+use crate::named::number_on;
 use c_structs::answers::Answered;
 use c_structs::answers::RecordAnswer;
 use c_structs::answers::of_edited;
 use c_structs::answers::refused_record;
-use crate::named::flag_on;
-use crate::named::number_on;
 use numbers::Numbers;
 use numbers::to_record::FromNumbers;
 use numbers::to_record::record_from;
@@ -153,7 +153,10 @@ pub extern "C" fn frayedbin_record_set_supports_receiving_jr_timestamps(
     ensures { λ r. ⌜ r ≡ setIn (λ m. Setting.flag Flag.supports-receiving-jr-timestamps on) «record» ⌝ }
 {
     match record_from(record) {
-        FromNumbers::Message(message) => of_edited(message.set_supports_receiving_jr_timestamps(on), record),
+        FromNumbers::Message(message) => of_edited(
+            message.set_supports_receiving_jr_timestamps(on),
+            record,
+        ),
         FromNumbers::Refused(refusal) => refused_record(refusal, record),
     }
 }
@@ -166,7 +169,10 @@ pub extern "C" fn frayedbin_record_set_supports_sending_jr_timestamps(
     ensures { λ r. ⌜ r ≡ setIn (λ m. Setting.flag Flag.supports-sending-jr-timestamps on) «record» ⌝ }
 {
     match record_from(record) {
-        FromNumbers::Message(message) => of_edited(message.set_supports_sending_jr_timestamps(on), record),
+        FromNumbers::Message(message) => of_edited(
+            message.set_supports_sending_jr_timestamps(on),
+            record,
+        ),
         FromNumbers::Refused(refusal) => refused_record(refusal, record),
     }
 }
@@ -179,7 +185,10 @@ pub extern "C" fn frayedbin_record_set_number_of_function_blocks(
     ensures { λ r. ⌜ r ≡ setIn (λ m. Setting.number Number.number-of-function-blocks number) «record» ⌝ }
 {
     match record_from(record) {
-        FromNumbers::Message(message) => of_edited(message.set_number_of_function_blocks(number), record),
+        FromNumbers::Message(message) => of_edited(
+            message.set_number_of_function_blocks(number),
+            record,
+        ),
         FromNumbers::Refused(refusal) => refused_record(refusal, record),
     }
 }

@@ -4,6 +4,8 @@ ghost use Rattle.kinds.specs.Fields.{Flag, Number, Setting};
 ghost use Rattle.standard.specs.Words.{setOn};
 ghost use Rattle.c_structs.specs.Crossed.{answered};
 ghost use Rattle.frayedbin.specs.Calls.{hintOn, portOn, directionOn, setIn, hintIn, portIn, directionIn};
+use crate::named::flag_on;
+use crate::named::number_on;
 use c_structs::answers::Answered;
 use c_structs::answers::RecordAnswer;
 use c_structs::answers::of_answer;
@@ -16,8 +18,6 @@ use c_structs::choices::PortFromCode;
 use c_structs::choices::direction_from_code;
 use c_structs::choices::hint_from_code;
 use c_structs::choices::port_from_code;
-use crate::named::flag_on;
-use crate::named::number_on;
 use numbers::Numbers;
 use numbers::to_record::FromNumbers;
 use numbers::to_record::record_from;
@@ -153,7 +153,10 @@ pub extern "C" fn frayedbin_record_set_function_block_number(
     ensures { λ r. ⌜ r ≡ setIn (λ m. Setting.number Number.function-block-number number) «record» ⌝ }
 {
     match record_from(record) {
-        FromNumbers::Message(message) => of_edited(message.set_function_block_number(number), record),
+        FromNumbers::Message(message) => of_edited(
+            message.set_function_block_number(number),
+            record,
+        ),
         FromNumbers::Refused(refusal) => refused_record(refusal, record),
     }
 }
@@ -215,7 +218,10 @@ pub extern "C" fn frayedbin_record_set_number_of_groups_spanned(
     ensures { λ r. ⌜ r ≡ setIn (λ m. Setting.number Number.number-of-groups-spanned number) «record» ⌝ }
 {
     match record_from(record) {
-        FromNumbers::Message(message) => of_edited(message.set_number_of_groups_spanned(number), record),
+        FromNumbers::Message(message) => of_edited(
+            message.set_number_of_groups_spanned(number),
+            record,
+        ),
         FromNumbers::Refused(refusal) => refused_record(refusal, record),
     }
 }
@@ -241,7 +247,10 @@ pub extern "C" fn frayedbin_record_set_max_number_of_midi_ci_streams(
     ensures { λ r. ⌜ r ≡ setIn (λ m. Setting.number Number.max-number-of-midi-ci-streams number) «record» ⌝ }
 {
     match record_from(record) {
-        FromNumbers::Message(message) => of_edited(message.set_max_number_of_midi_ci_streams(number), record),
+        FromNumbers::Message(message) => of_edited(
+            message.set_max_number_of_midi_ci_streams(number),
+            record,
+        ),
         FromNumbers::Refused(refusal) => refused_record(refusal, record),
     }
 }

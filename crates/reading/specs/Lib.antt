@@ -1,3 +1,4 @@
 pub mod Rules
 pub mod Bodies
 pub mod OnePass
+pub mod Framed

@@ -4,6 +4,7 @@ pub mod device_identity;
 pub mod endpoint_discovery;
 pub mod endpoint_info;
 pub mod endpoint_name;
+pub mod framed;
 pub mod function_block_info;
 pub mod function_block_name;
 pub mod heads;

@@ -41,7 +41,7 @@ pub fn most_packets(kind: Kind) -> usize
     }
 }
 
-// Refusals 9, 10 and 11, and else the message. The words go on as a slice taken anew, in registers.
+// Refusals 9, 10 and 11, else the message. `&words[0..]` makes the compiler pass the slice in registers.
 fn read_body(kind: Kind, words: &[u32]) -> Read
     requires { ⌜ 4 ≤ length (now words) ⌝ }
     ensures { λ r. ⌜ r ≡ readBody kind (now (words .entry)) ⌝ }
@@ -87,8 +87,8 @@ fn repeats_field(kind: Kind) -> bool
     }
 }
 
-// Refusal 8, and else what comes after it.
-fn read_fields(kind: Kind, words: &[u32]) -> Read
+// Refusals 8 to 11, else the message.
+pub(crate) fn read_fields(kind: Kind, words: &[u32]) -> Read
     requires { ⌜ (4 ≤ length (now words)) × (packetsOf (now words) ≤ mostOf kind) ⌝ }
     ensures { λ r. ⌜ r ≡ fieldsRead kind (now (words .entry)) ⌝ }
 {
@@ -102,7 +102,7 @@ fn read_fields(kind: Kind, words: &[u32]) -> Read
     read_body(kind, words)
 }
 
-// Refusals 6, 7 and 8.
+// Refusals 6 to 11, else the message.
 fn read_kind(kind: Kind, words: &[u32]) -> Read
     requires { ⌜ 4 ≤ length (now words) ⌝ }
     ensures { λ r. ⌜ r ≡ readKind kind (now (words .entry)) ⌝ }
@@ -122,7 +122,7 @@ fn read_kind(kind: Kind, words: &[u32]) -> Read
     read_fields(kind, words)
 }
 
-// Whether none of refusals 4 to 8 comes to a message of a kind and n packets, as its heads say in one pass.
+// Whether one pass over the heads rules out refusals 4 to 8, for a message of this kind in n packets.
 fn heads_right(kind: Kind, words: &[u32], n: usize) -> bool
     ensures { λ r. ⌜ r ≡ headsRight kind (now (words .entry)) n ⌝ }
 {
@@ -135,7 +135,7 @@ fn heads_right(kind: Kind, words: &[u32], n: usize) -> bool
     headed_packets(words, 0).0 == n
 }
 
-// Refusals 4 to 11, one rule after the other.
+// Refusals 4 to 11, one rule after the other, else the message.
 fn read_rules(words: &[u32]) -> Read
     requires { ⌜ 4 ≤ length (now words) ⌝ }
     ensures { λ r. ⌜ r ≡ rulesRead (now (words .entry)) ⌝ }
@@ -150,7 +150,7 @@ fn read_rules(words: &[u32]) -> Read
     }
 }
 
-// READING ONE MESSAGE: where its heads are right no rule of theirs need be gone by
+// Reads one message. Fast path: if one pass finds every head right, skip refusals 4 to 8.
 pub fn read(words: &[u32]) -> Read
     ensures { λ r. ⌜ r ≡ readOf (now (words .entry)) ⌝ }
 {

@@ -1,4 +1,4 @@
-// The heads of a message, seen in one pass: each is like the first but for its format, and the formats run from Start to End.
+// Checks the heads of a message in one pass: each must be like the first except for its format, and the formats must run from Start to End.
 ghost use mathlib.Core.Path.{_≡_};
 ghost use Prim.Native.Nat.{_<_};
 ghost use Rattle.counts.specs.Counts.{packet};
@@ -22,14 +22,14 @@ fn text_bits(offset: usize) -> u32
     }
 }
 
-// What a first word has above its text, with its format as 0.
+// The bits of a first word above its text, with the format set to 0.
 fn head_bits(word: u32, offset: usize) -> u32
     ensures { λ r. ⌜ r ≡ headBits word offset ⌝ }
 {
     bit_ops::set_crumb(word, 2, 0) >> text_bits(offset)
 }
 
-// Whether packet p is there, and its head is like the first but for its format.
+// Whether packet p is there, with a head like the first except for its format.
 fn like_first(words: &[u32], offset: usize, p: usize) -> bool
     ensures { λ r. ⌜ r ≡ likeFirst (now (words .entry)) offset p ⌝ }
 {
@@ -39,7 +39,7 @@ fn like_first(words: &[u32], offset: usize, p: usize) -> bool
     head_bits(words[p * 4], offset) == head_bits(words[0], offset)
 }
 
-// The packets of a message whose packet p has this format, where it is the last one's; else 0.
+// The number of packets if packet p, with this format, is the last one; else 0.
 fn ends_at(format: u8, p: usize) -> usize
     requires { ⌜ p < 64 ⌝ }
     ensures { λ r. ⌜ r ≡ endsAt «format» p ⌝ }
@@ -50,7 +50,7 @@ fn ends_at(format: u8, p: usize) -> usize
     0
 }
 
-// The packets of the message at the start of the words, as its heads say; 0 where they are not right.
+// The number of packets of the message at the start of the words, or 0 if a head is wrong.
 pub fn headed_packets(words: &[u32], offset: usize) -> PacketNumber
     ensures { λ r. ⌜ r ≡ packet (headedPackets (now (words .entry)) offset) ⌝ }
 {
@@ -75,7 +75,7 @@ pub fn headed_packets(words: &[u32], offset: usize) -> PacketNumber
     PacketNumber(0)
 }
 
-// The same where its text is UTF-8; else 0.
+// The same, or 0 if its text is not UTF-8.
 fn seen_text(words: &[u32], offset: usize) -> PacketNumber
     ensures { λ r. ⌜ r ≡ packet (seenText (now (words .entry)) offset) ⌝ }
 {
@@ -87,7 +87,7 @@ fn seen_text(words: &[u32], offset: usize) -> PacketNumber
     PacketNumber(0)
 }
 
-// The same of a kind: none but the three with text has any.
+// The same for a kind; 0 for a kind without text.
 pub fn text_packets(kind: Kind, words: &[u32]) -> PacketNumber
     ensures { λ r. ⌜ r ≡ packet (textPackets kind (now (words .entry))) ⌝ }
 {

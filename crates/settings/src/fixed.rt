@@ -26,7 +26,14 @@ pub(crate) fn home_of(kind: Kind, slot: u8) -> Home
 }
 
 // The refusals of the target, then 12; else the number is put into the `span` bits from bit `at` on.
-pub(crate) fn set_place(words: &mut [u32], status: u32, word: usize, at: usize, span: usize, v: u32) -> Answer
+pub(crate) fn set_place(
+    words: &mut [u32],
+    status: u32,
+    word: usize,
+    at: usize,
+    span: usize,
+    v: u32,
+) -> Answer
     ensures answer { λ r. ⌜ r ≡ placeOn status word at span v (now (words .entry)) .answer ⌝ }
     ensures buffer { λ r. ⌜ now (words .exit) ≡ placeOn status word at span v (now (words .entry)) .words ⌝ }
 {

@@ -55,7 +55,14 @@ pub fn set_direction(words: &mut [u32], direction: Direction) -> Answer
     ensures buffer { λ r. ⌜ now (words .exit) ≡ setOn (Setting.direction direction) (now (words .entry)) .words ⌝ }
 {
     let home = home_of(Kind::FunctionBlockInfo, DIRECTION);
-    set_place(words, home.0, home.1, home.2, home.3, direction_code(direction))
+    set_place(
+        words,
+        home.0,
+        home.1,
+        home.2,
+        home.3,
+        direction_code(direction),
+    )
 }
 
 pub fn set_first_group(words: &mut [u32], group: u32) -> Answer

@@ -30,7 +30,7 @@ pub part-length : (ws : List ℕ) (pos n : ℕ) → pos + n * 4 ≤ length ws �
 part-length ws pos n h = simp (length-take, length-drop) (omega arith)
 
 -- ---- a packet's first word, in the part and in the stream
-part-head : (ws : List ℕ) (pos n p : ℕ) → p < n → headAt (part ws pos n) p ≡ getD ws (pos + p * 4) 0
+pub part-head : (ws : List ℕ) (pos n p : ℕ) → p < n → headAt (part ws pos n) p ≡ getD ws (pos + p * 4) 0
 part-head ws pos n p h = let l : p * 4 < pos + n * 4 - pos = omega arith in rw (getD-take, getD-drop)
 
 -- ---- the chain rule accepts the due format of each packet

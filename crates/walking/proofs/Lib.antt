@@ -1,3 +1,5 @@
 pub mod Turns
+pub mod FramedRead
+pub mod Other
 pub mod Stands
 pub mod Visits

@@ -1,11 +1,14 @@
-// Walks a stream of words: at a position, the end, another type, a message or a refusal, and where to go on.
+// Walks a stream of words: what stands at a position (the end, another type, a message or a refusal), and where the next one starts.
 ghost use mathlib.Core.Path.{_≡_};
 ghost use Prim.Native.Nat.{_<_};
+ghost use lib.Dec.{eqb};
 ghost use lib.ListN.{length};
 ghost use Rattle.standard.specs.Walk.{sizeOf, stepOf, frameOf, walkedOf, framedOf, otherOf, walkOf};
+ghost use Rattle.walking.specs.Other.{otherSize};
 use counts::PacketNumber;
 use counts::WordNumber;
 use kinds::refusal::Refusal;
+use reading::framed::read_framed;
 use reading::heads::format_of;
 use reading::heads::status_of;
 use reading::heads::type_of;
@@ -14,7 +17,7 @@ use records::answers::Walked;
 use standard::Framed;
 use standard::Step;
 
-// The words of a message of a type.
+// The number of words in a message of this type.
 pub fn size_of(ump_type: u32) -> usize
     ensures { λ r. ⌜ r ≡ sizeOf «ump_type» ⌝ }
 {
@@ -26,7 +29,7 @@ pub fn size_of(ump_type: u32) -> usize
     }
 }
 
-// Outside a message, at packet 0, only Complete or Start may come; inside only Continue or End.
+// What a packet's format means: a first packet must be Complete or Start, a later one Continue or End.
 fn step_of(p: usize, format: u8) -> Step
     ensures { λ r. ⌜ r ≡ stepOf p format ⌝ }
 {
@@ -44,7 +47,7 @@ fn step_of(p: usize, format: u8) -> Step
     }
 }
 
-// The packets of the message that starts at `pos`. Where packet 64 is due there are too many, even with no words left.
+// Counts the packets of the message at `pos` and checks their heads. If 64 packets do not end it there are too many, even with no words left.
 fn frame(words: &[u32], pos: usize) -> Framed
     requires { ⌜ pos < length (now words) ⌝ }
     ensures { λ r. ⌜ r ≡ frameOf (now (words .entry)) pos ⌝ }
@@ -79,7 +82,39 @@ fn frame(words: &[u32], pos: usize) -> Framed
     Framed::Broken(Refusal::TooManyPackets)
 }
 
-// Another type; with words missing it is refusal 1.
+// Whether this type has one word (0, 1, 2, 6 or 7): one bit test for all five.
+fn is_one_word(ump_type: u32) -> bool
+    ensures { λ r. ⌜ r ≡ eqb (sizeOf «ump_type») 1 ⌝ }
+{
+    if ump_type < 16 {
+        return (0b1100_0111u32 >> ump_type) % 2 == 1;
+    }
+    false
+}
+
+// Fast path of stepping over another type: the words of its message if all are there, and 0 for any other answer of the walk.
+pub fn other_size(words: &[u32], position: WordNumber) -> usize
+    ensures { λ r. ⌜ r ≡ otherSize (now (words .entry)) (position .0) ⌝ }
+{
+    let pos = position.0;
+    if words.len() <= pos {
+        return 0;
+    }
+    let ump_type = type_of(words[pos]) as u32;
+    if is_one_word(ump_type) {
+        return 1;
+    }
+    if ump_type == 15 {
+        return 0;
+    }
+    let size = size_of(ump_type);
+    if words.len() - pos < size {
+        return 0;
+    }
+    size
+}
+
+// A message of another type, or refusal 1 if some of its words are missing.
 fn walk_other(ump_type: u32, words: &[u32], pos: usize) -> Walked
     requires { ⌜ pos < length (now words) ⌝ }
     ensures { λ r. ⌜ r ≡ otherOf «ump_type» (now (words .entry)) pos ⌝ }
@@ -98,7 +133,7 @@ fn walk_other(ump_type: u32, words: &[u32], pos: usize) -> Walked
     }
 }
 
-// What was read, with the word after it.
+// What was read, with the position after it.
 fn walk_read(read: Read, next: usize) -> Walked
     ensures { λ r. ⌜ r ≡ walkedOf read next ⌝ }
 {
@@ -114,7 +149,7 @@ fn walk_read(read: Read, next: usize) -> Walked
     }
 }
 
-// A message: framed, and then read. After refusal 1 the next position is the length, after the others of framing four words on.
+// A stream message: framed, then read without checking its heads again. After refusal 1 the next position is the length, after another framing refusal four words on.
 fn walk_framed(words: &[u32], pos: usize) -> Walked
     requires { ⌜ pos < length (now words) ⌝ }
     ensures { λ r. ⌜ r ≡ framedOf (frameOf (now (words .entry)) pos) (now (words .entry)) pos ⌝ }
@@ -131,12 +166,12 @@ fn walk_framed(words: &[u32], pos: usize) -> Walked
         },
         Framed::Whole(n) => {
             let after = pos + n.0 * 4;
-            walk_read(reading::message::read(&words[pos..after]), after)
+            walk_read(read_framed(&words[pos..after]), after)
         }
     }
 }
 
-// WALKING A STREAM
+// What stands at a word position of a stream, and the next position.
 pub fn walk(words: &[u32], position: WordNumber) -> Walked
     ensures { λ r. ⌜ r ≡ walkOf (now (words .entry)) (position .0) ⌝ }
 {

@@ -1,0 +1,40 @@
+-- The size of another type's message: each return is a case of the walk.
+use mathlib.Core.Path.{sym, ap, _∙_}
+use borrow.Author.Tests.{eqb-true}
+use Rattle.standard.specs.Walk.{sizeOf}
+use Rattle.walking.proofs.Other.{size-end, size-stream, size-short, size-whole, size-one}
+use borrow.Author.Needs.{needs}
+use Rattle.walking.proofs.other_size.Statement.{statement}
+use Rattle.walking.proofs.other_size.Tie as tie
+
+returns : tie.Need-returns
+returns c = size-end _ _ (c .if1 .taken)
+
+returns-2 : tie.Need-returns-2
+returns-2 c =
+    let d = c .before .before in
+    let one = eqb-true _ _ (sym (c .before .is-one-word .ensures) ∙ c .if2 .taken) in
+    size-one _ _ (d .before .before .if1 .left) (ap sizeOf (sym (d .type-of .ensures)) ∙ one)
+
+returns-3 : tie.Need-returns-3
+returns-3 c =
+    let d = c .before .before .before in
+    size-stream _ _ (d .before .before .if1 .left) (sym (d .type-of .ensures) ∙ c .if3 .taken)
+
+returns-4 : tie.Need-returns-4
+returns-4 c =
+    let d = c .before .before .before .before .before in
+    size-short _ _ (d .before .before .if1 .left) (λ e. c .before .before .if3 .left (d .type-of .ensures ∙ e)) (rw (← d .type-of .ensures, ← c .before .size-of .ensures) (c .if4 .taken))
+
+returns-5 : tie.Need-returns-5
+returns-5 c =
+    let d = c .before .before .before .before .before in
+    c .before .size-of .ensures ∙ ap sizeOf (d .type-of .ensures) ∙ size-whole _ _ (d .before .before .if1 .left) (λ e. c .before .before .if3 .left (d .type-of .ensures ∙ e)) (rw (← d .type-of .ensures, ← c .before .size-of .ensures) (c .if4 .left))
+
+pub other-size-spec : {M : Type 1} → statement M
+other-size-spec =
+    tie.close
+    (tie.spec
+    returns (λ c. search needs) (λ c. search needs) (λ c κs. search needs) (λ c. search needs)
+    (λ c κs. search needs) returns-2 returns-3 (λ c κs. search needs) (λ c. search needs)
+    returns-4 returns-5)
