@@ -12,7 +12,7 @@ use Rattle.laws.specs.Pick.{pick, differ}
 use Rattle.laws.proofs.Pick.{never, passed, eq-differ, differ-false}
 use Rattle.counts.specs.Counts.{packet}
 use Rattle.counts.specs.declared.PacketNumber.{PacketNumber}
-use Rattle.text.specs.Octets.{due}
+use Rattle.text.specs.Octets.{dueFormat}
 use Rattle.kinds.specs.declared.refusal.Refusal.the-variants.{WrongType, StatusDiffers}
 use Rattle.standard.specs.declared.Step.{Step}
 use Rattle.standard.specs.declared.Step.the-variants.{Ends, Goes, Wrong}
@@ -36,8 +36,8 @@ picked-goes true b e = never (cc)
 picked-goes false true e = refl
 picked-goes false false e = never (cc)
 
-ends-due : (n p f : ℕ) → p + 1 ≡ n → stepOf p f ≡ Ends → f ≡ due n p
-unfolding stepOf due
+ends-due : (n p f : ℕ) → p + 1 ≡ n → stepOf p f ≡ Ends → f ≡ dueFormat n p
+unfolding stepOf dueFormat
 ends-due n zero f e s = let q : n ≡ 1 = omega arith in rw q (eqb-true f 0 (picked-ends (eqb f 0) (eqb f 1) s))
 ends-due n (suc p) f e s =
     let a : leb n 1 ≡ false = lt-leb n 1 (omega arith) in
@@ -45,8 +45,8 @@ ends-due n (suc p) f e s =
     let z : eqb (suc p) 0 ≡ false = ne-eqb (suc p) 0 (λ q. omega arith) in
     rw (a, z, b) (eqb-true f 3 (picked-ends (eqb f 3) (eqb f 2) (rw z at s)))
 
-goes-due : (n p f : ℕ) → p + 1 < n → stepOf p f ≡ Goes → f ≡ due n p
-unfolding stepOf due
+goes-due : (n p f : ℕ) → p + 1 < n → stepOf p f ≡ Goes → f ≡ dueFormat n p
+unfolding stepOf dueFormat
 goes-due n zero f e s = let a : leb n 1 ≡ false = lt-leb n 1 (omega arith) in rw a (eqb-true f 1 (picked-goes (eqb f 0) (eqb f 1) s))
 goes-due n (suc p) f e s =
     let a : leb n 1 ≡ false = lt-leb n 1 (omega arith) in
@@ -60,7 +60,7 @@ module _ (ws : List ℕ) (s pos : ℕ) where
   record Seen (n p : ℕ) : Type 0 where
     type : typeOf (getD ws (pos + p * 4) 0) ≡ streamType
     status : statusOf (getD ws (pos + p * 4) 0) ≡ s
-    format : formatOf (getD ws (pos + p * 4) 0) ≡ due n p
+    format : formatOf (getD ws (pos + p * 4) 0) ≡ dueFormat n p
 
   -- its packets from p on
   record From (p : ℕ) (n : PacketNumber) : Type 0 where
@@ -123,5 +123,5 @@ framed-heads ws pos n e =
       few = omega (arith, r .1);
       type = λ p h. eq-differ _ _ (ap typeOf (head p (below p h)) ∙ all .each p (omega arith) (below p h) .type);
       status = λ p h. eq-differ _ _ (ap statusOf (head p (below p h)) ∙ all .each p (omega arith) (below p h) .status ∙ ap statusOf (sym first));
-      format = λ p h. eq-differ _ _ (ap formatOf (head p (below p h)) ∙ all .each p (omega arith) (below p h) .format ∙ ap (λ (i : ℕ). due i p) (sym count));
+      format = λ p h. eq-differ _ _ (ap formatOf (head p (below p h)) ∙ all .each p (omega arith) (below p h) .format ∙ ap (λ (i : ℕ). dueFormat i p) (sym count));
     }

@@ -8,7 +8,7 @@ use lib.ListN.{length, getD}
 use lib.Dec.{T, ltb, leb, eqb}
 use borrow.Author.Tests.{ltb-false, lt-ltb, le-ltb, lt-leb}
 use Rattle.laws.specs.Pick.{differ}
-use Rattle.laws.proofs.Bytes.{eachBelow, at}
+use Rattle.laws.proofs.EachBelow.{eachBelow, at}
 use Rattle.laws.proofs.Pick.{picked, here, past, eq-differ, ne-differ}
 use Rattle.counts.specs.Counts.{word}
 use Rattle.kinds.specs.declared.refusal.Refusal.the-variants.{TooFewWords}
