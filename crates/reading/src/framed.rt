@@ -3,7 +3,6 @@ ghost use mathlib.Core.Path.{_≡_};
 ghost use Prim.Native.Nat.{_≤_};
 ghost use lib.ListN.{length};
 ghost use Rattle.reading.specs.Framed.{framedKind, framedRead};
-use crate::heads::kind_of;
 use crate::heads::status_of;
 use crate::message::most_packets;
 use crate::message::read_fields;
@@ -12,6 +11,7 @@ use kinds::kind::Kind;
 use kinds::kind::Known;
 use kinds::refusal::Refusal;
 use records::answers::Read;
+use table::rows::kind_of;
 
 // Refusal 7 for a fixed kind in several packets, then 8 to 11, else the record.
 fn read_framed_kind(kind: Kind, words: &[u32]) -> Read

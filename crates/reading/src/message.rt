@@ -24,21 +24,15 @@ use kinds::kind::Known;
 use kinds::refusal::Refusal;
 use records::answers::Read;
 use table::rows::kind_of;
+use table::rows::row_of;
 use text_check::good_text;
 
 // A fixed kind is one packet, text at most 64.
 pub fn most_packets(kind: Kind) -> usize
     ensures { λ r. ⌜ r ≡ mostOf kind ⌝ }
 {
-    match kind {
-        Kind::EndpointName => 64,
-        Kind::ProductInstanceId => 64,
-        Kind::FunctionBlockName => 64,
-        Kind::EndpointDiscovery => 1,
-        Kind::EndpointInfo => 1,
-        Kind::DeviceIdentity => 1,
-        Kind::FunctionBlockInfo => 1,
-    }
+    let row = row_of(kind);
+    row.most_packets
 }
 
 // Refusals 9, 10 and 11, else the message. `&words[0..]` makes the compiler pass the slice in registers.
