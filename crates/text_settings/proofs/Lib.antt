@@ -2,4 +2,4 @@ pub mod Plans
 pub mod Rows
 pub mod Heads
 pub mod Targets
-pub mod Lones
+pub mod Singles

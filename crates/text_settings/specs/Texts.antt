@@ -29,14 +29,14 @@ use Rattle.text_settings.specs.declared.texts.Plan.the-variants as P
 abbrev pub upperOf : ℕ → ℕ
 upperOf w = w / 0x10000
 
--- a head of a lone packet of a kind with text: type 15, format 0 and its status
-pub record LoneHead (k : Kind) (head : ℕ) : Type 0 where
+-- a head of a single packet of a kind with text: type 15, format 0 and its status
+pub record SingleHead (k : Kind) (head : ℕ) : Type 0 where
   pub upper : upperOf head ≡ 0xF000 + layout k .status
   pub text : 0 < capacityOf k
 
 -- the first packet has the upper half of a head, and all of its text is plain
-unfoldable pub loneOf : List ℕ → ℕ → Bool
-loneOf ws head =
+unfoldable pub singleAscii : List ℕ → ℕ → Bool
+singleAscii ws head =
     pick (ltb (length ws) 4) false (pick (differ (upperOf (getD ws 0 0)) (upperOf head)) false (asciiPacket ws 0 0))
 
 -- refusals 3 and 14 by the packets needed and the whole packets of the buffer

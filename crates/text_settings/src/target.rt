@@ -1,9 +1,9 @@
-// What a setting of a text kind finds at word position 0: seen by one packet, or in one pass, where it can be.
+// What a setting of a text kind finds at word position 0, with fast paths for messages whose heads are right.
 ghost use mathlib.Core.Path.{_≡_};
 ghost use Rattle.kinds.specs.Layout.{layout};
 ghost use Rattle.standard.specs.Walk.{walkOf};
 ghost use Rattle.settings.specs.Target.{targetOf};
-ghost use Rattle.text_settings.specs.Texts.{loneOf, LoneHead};
+ghost use Rattle.text_settings.specs.Texts.{singleAscii, SingleHead};
 use counts::PacketNumber;
 use kinds::kind::Kind;
 use reading::heads::status_of;
@@ -12,9 +12,9 @@ use settings::target::Target;
 use settings::target::find_target;
 use text_check::ascii::ascii_packet;
 
-// Whether the first packet is a whole message with the upper half of this head, and its text is plain.
-fn lone(words: &[u32], head: u32) -> bool
-    ensures { λ r. ⌜ r ≡ loneOf (now (words .entry)) head ⌝ }
+// Whether the first packet has the type, format and status of this head, and its text is ASCII.
+fn is_single_ascii_packet(words: &[u32], head: u32) -> bool
+    ensures { λ r. ⌜ r ≡ singleAscii (now (words .entry)) head ⌝ }
 {
     if words.len() < 4 {
         return false;
@@ -25,7 +25,7 @@ fn lone(words: &[u32], head: u32) -> bool
     ascii_packet(words, 0, 0)
 }
 
-// The packets of a message of this kind, which has this status, or why a setting of it is refused.
+// The packets of a message of this kind, or why a setting of it is refused. Fast path: one pass over the heads.
 pub(crate) fn find_text_target(words: &[u32], kind: Kind, status: u32) -> Target
     requires { ⌜ status ≡ layout kind .status ⌝ }
     ensures { λ r. ⌜ r ≡ targetOf status (walkOf (now (words .entry)) 0) ⌝ }
@@ -41,12 +41,12 @@ pub(crate) fn find_text_target(words: &[u32], kind: Kind, status: u32) -> Target
     find_target(words, status)
 }
 
-// The same by the head of its lone packet, at once where that stands there.
-pub(crate) fn find_near_target(words: &[u32], kind: Kind, head: u32) -> Target
-    requires { ⌜ LoneHead kind head ⌝ }
+// Fast path: if a single ASCII packet stands there, no other check is needed.
+pub(crate) fn find_target_fast(words: &[u32], kind: Kind, head: u32) -> Target
+    requires { ⌜ SingleHead kind head ⌝ }
     ensures { λ r. ⌜ r ≡ targetOf (layout kind .status) (walkOf (now (words .entry)) 0) ⌝ }
 {
-    if lone(words, head) {
+    if is_single_ascii_packet(words, head) {
         return Target::Packets(PacketNumber(1));
     }
     find_text_target(words, kind, status_of(head))

@@ -3,8 +3,8 @@ ghost use mathlib.Core.Path.{_≡_};
 ghost use Prim.Native.Nat.{_<_};
 ghost use Rattle.kinds.specs.Layout.{layout};
 ghost use Rattle.text.specs.Octets.{needed};
-ghost use Rattle.text_settings.specs.Texts.{LoneHead, roomOf, planOf, textOn};
-use crate::target::find_near_target;
+ghost use Rattle.text_settings.specs.Texts.{SingleHead, roomOf, planOf, textOn};
+use crate::target::find_target_fast;
 use buffer::texts::fill_text;
 use counts::PacketNumber;
 use kinds::kind::Kind;
@@ -54,11 +54,11 @@ pub(crate) fn set_text(
     head: u32,
     text: &[u8],
 ) -> Answer
-    requires { ⌜ LoneHead kind head × (offset < 14) ⌝ }
+    requires { ⌜ SingleHead kind head × (offset < 14) ⌝ }
     ensures answer { λ r. ⌜ r ≡ textOn (layout kind .status) offset head (now (text .entry)) (now (words .entry)) .answer ⌝ }
     ensures buffer { λ r. ⌜ now (words .exit) ≡ textOn (layout kind .status) offset head (now (text .entry)) (now (words .entry)) .words ⌝ }
 {
-    match find_near_target(words, kind, head) {
+    match find_target_fast(words, kind, head) {
         Target::Refused(refusal) => Answer::Refused(refusal),
         Target::Packets(_) => {
             let room = PacketNumber(words.len() / 4);

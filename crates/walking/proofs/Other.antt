@@ -8,7 +8,7 @@ use lib.ListN.{length, getD}
 use lib.Dec.{T, ltb, leb, eqb}
 use borrow.Author.Tests.{ltb-false, lt-ltb, le-ltb, lt-leb}
 use Rattle.laws.specs.Pick.{differ}
-use Rattle.laws.proofs.EachBelow.{eachBelow, at}
+use Rattle.laws.proofs.EachBelow.{eachBelow, each-at}
 use Rattle.laws.proofs.Pick.{picked, here, past, eq-differ, ne-differ}
 use Rattle.counts.specs.Counts.{word}
 use Rattle.kinds.specs.declared.refusal.Refusal.the-variants.{TooFewWords}
@@ -44,7 +44,7 @@ all-bits = tt
 
 pub one-word-bit : (t : ℕ) → t < 16 → eqb (0xC7 / 2 ^ t % 2) 1 ≡ eqb (sizeOf t) 1
 unfolding bit-test
-one-word-bit t h = alike-same _ _ (at bit-test 16 all-bits t h)
+one-word-bit t h = alike-same _ _ (each-at bit-test 16 all-bits t h)
 
 -- a number above 15 is no type of one word
 pub one-word-not : (t : ℕ) → 16 ≤ t → false ≡ eqb (sizeOf t) 1

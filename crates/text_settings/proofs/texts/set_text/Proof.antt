@@ -7,13 +7,13 @@ use Rattle.text_settings.proofs.texts.set_text.Statement.{statement}
 use Rattle.text_settings.proofs.texts.set_text.Tie as tie
 
 returns : tie.Need-returns
-returns c = said (text-refused _ _ _ _ _ (sym (c .before .before .before .find-near-target .ensures) ∙ c .before .refusal .given .1))
+returns c = said (text-refused _ _ _ _ _ (sym (c .before .before .before .find-target-fast .ensures) ∙ c .before .refusal .given .1))
 
 returns-2 : tie.Need-returns-2
-returns-2 c = said (text-planless _ _ _ _ _ (sym (c .before .before .before .before .before .before .find-near-target .ensures) ∙ c .before .before .before .before .enum-told .given .1) (sym (c .before .before .before .plan-text .ensures) ∙ c .before .refusal2 .given .1))
+returns-2 c = said (text-planless _ _ _ _ _ (sym (c .before .before .before .before .before .before .find-target-fast .ensures) ∙ c .before .before .before .before .enum-told .given .1) (sym (c .before .before .before .plan-text .ensures) ∙ c .before .refusal2 .given .1))
 
 returns-3 : tie.Need-returns-3
-returns-3 c = rw (c .before .before .fill-text .ensures) (said (text-done _ _ _ _ _ (sym (c .before .before .before .before .before .before .before .before .before .before .find-near-target .ensures) ∙ c .before .before .before .before .before .before .before .before .enum-told .given .1) (sym (c .before .before .before .before .before .before .before .plan-text .ensures) ∙ c .before .before .before .before .before .packets .given .1)))
+returns-3 c = rw (c .before .before .fill-text .ensures) (said (text-done _ _ _ _ _ (sym (c .before .before .before .before .before .before .before .before .before .before .find-target-fast .ensures) ∙ c .before .before .before .before .before .before .before .before .enum-told .given .1) (sym (c .before .before .before .before .before .before .before .plan-text .ensures) ∙ c .before .before .before .before .before .packets .given .1)))
 
 pub set-text-spec : {M : Type 1} → statement M
 set-text-spec =

@@ -24,7 +24,7 @@ use Rattle.reading.specs.OnePass.{headBits, likeFirst, endsAt, headedPackets, s
 use Rattle.reading.proofs.Passes.{same-type, turn-ends, seen-good}
 use Rattle.settings.specs.declared.target.Target.the-variants as T
 use Rattle.settings.specs.Target.{targetOf}
-use Rattle.text_settings.specs.Texts.{upperOf, LoneHead, loneOf}
+use Rattle.text_settings.specs.Texts.{upperOf, SingleHead, singleAscii}
 use Rattle.text_settings.proofs.Targets.{seen-target}
 
 -- ---- the first word of a whole message
@@ -38,7 +38,7 @@ module _ (w status : ℕ) (e : upperOf w ≡ 0xF000 + status) (small : status < 
   whole-status : statusOf w ≡ status
   whole-status = omega arith
 
-pub head-status : {k : Kind} {head : ℕ} → LoneHead k head → statusOf head ≡ layout k .status
+pub head-status : {k : Kind} {head : ℕ} → SingleHead k head → statusOf head ≡ layout k .status
 head-status {k} h = whole-status _ _ (h .upper) (status-small k)
 
 -- ---- what the pass sees of a first packet that is whole
@@ -76,9 +76,9 @@ one-text K.FunctionBlockInfo ws l e = absurd (omega arith)
 one-text K.FunctionBlockName ws l e = sym (e 1)
 
 -- A LONE PACKET IS THE TARGET
-pub lone-target : (k : Kind) (ws : List ℕ) (head : ℕ) → LoneHead k head → loneOf ws head ≡ true → T.Packets (packet 1) ≡ targetOf (layout k .status) (walkOf ws 0)
-unfolding loneOf
-lone-target k ws head own e =
+pub single-target : (k : Kind) (ws : List ℕ) (head : ℕ) → SingleHead k head → singleAscii ws head ≡ true → T.Packets (packet 1) ≡ targetOf (layout k .status) (walkOf ws 0)
+unfolding singleAscii
+single-target k ws head own e =
     let other = differ (upperOf (getD ws 0 0)) (upperOf head) in
     let a = passed (ltb (length ws) 4) false (pick other false (asciiPacket ws 0 0)) true (λ q. true-false (sym q)) e in
     let b = passed other false (asciiPacket ws 0 0) true (λ q. true-false (sym q)) (a .1) in
