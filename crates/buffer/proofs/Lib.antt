@@ -1,4 +1,3 @@
 pub mod Puts
 pub mod Turns
 pub mod Octets
-pub mod Numbers

@@ -23,20 +23,6 @@ unfoldable pub putIns : {K : Type 0} → List (Slot K) → (K → ℕ) → List 
 putIns [] v ws = ws
 putIns (s ∷ ss) v ws = putIn (s .word) (s .at) (s .span) (v (s .key)) (putIns ss v ws)
 
--- numbers in the septets of a word, one in each octet; octet 0 is the highest
-unfoldable pub putSeptets : ℕ → ℕ → List ℕ → List ℕ → List ℕ
-putSeptets word octet [] ws = ws
-putSeptets word octet (x ∷ xs) ws = putIn word (24 - octet * 8) 7 x (putSeptets word (suc octet) xs ws)
-
--- the same; unchanged if the word has too few octets
-unfoldable pub fillSeptets : ℕ → ℕ → List ℕ → List ℕ → List ℕ
-fillSeptets word octet xs ws = pick (ltb 4 (octet + length xs)) ws (putSeptets word octet xs ws)
-
--- each number has at most seven bits
-unfoldable pub areSeptets : List ℕ → Bool
-areSeptets [] = true
-areSeptets (x ∷ xs) = both (ltb x 128) (areSeptets xs)
-
 -- a number in the first word of each of n packets; unchanged if the buffer has fewer packets
 unfoldable pub putEach : ℕ → ℕ → ℕ → ℕ → List ℕ → List ℕ
 putEach n at span v ws = pick (ltb (length ws / 4) n) ws (eachFirst n (λ w. putIfFits w at span v) ws)

@@ -115,7 +115,7 @@ pub extern "C" fn frayedbin_write(words: &mut [u32], record: Numbers) -> Answere
     }
 }
 
-// The listing of a capture, and how many bytes it took. A buffer of 139,275 bytes holds any.
+// The listing of a capture, and how many bytes it took. A buffer of listing::LISTING_ROOM bytes holds any.
 #[no_mangle]
 pub extern "C" fn frayedbin_list(bytes: &[u8], out: &mut [u8]) -> usize
     ensures { λ r. ⌜ Listed (now (bytes .entry)) (now (out .entry)) r (now (out .exit)) ⌝ }

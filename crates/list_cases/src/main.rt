@@ -37,6 +37,6 @@ fn run(input: &[u8], out: &mut [u8]) {
 fn main() {
     let mut input = [0u8; 131072];
     let n = io::read_full(STDIN_FILENO, &mut input);
-    let mut out = [0u8; 139275];
+    let mut out = [0u8; listing::LISTING_ROOM];
     run(&input[..n], &mut out);
 }

@@ -39,7 +39,7 @@ use Rattle.ascii_lines.specs.Numbers.{decimal}
 use Rattle.ascii_lines.proofs.Room.{decimal-length, place-in-bounds, text-at-start}
 use Rattle.listing.specs.Lines.{messageShown, refusalShown, lineOf, endLine, tooLong}
 use Rattle.listing.specs.Listing.{wordAt, wordsOf, visitLines, linesOf, listingOf}
-use Rattle.listing.specs.Listed.{Listed, roomy}
+use Rattle.listing.specs.Listed.{Listed, listingRoom}
 use Rattle.listing.proofs.Lengths.{message-length}
 
 -- ---- the parts of a line
@@ -174,7 +174,7 @@ unfolding each
 end-length words leftover h l = simp length-append (omega (arith, decimal-length 3 words (omega arith), decimal-length 0 leftover (omega arith)))
 
 -- ANY LISTING has at most 139,275 bytes
-pub listing-room : (bytes : List ℕ) → length (listingOf bytes) ≤ roomy
+pub listing-room : (bytes : List ℕ) → length (listingOf bytes) ≤ listingRoom
 unfolding listingOf
 listing-room bytes =
     ⊎-elim (λ h. rw (lt-ltb 32768 (length bytes) h) (lit≤ tt))

@@ -7,8 +7,8 @@ use Rattle.ascii_lines.specs.Page.{Wrote}
 use Rattle.listing.specs.Listing.{listingOf}
 
 -- a buffer of this many bytes holds any listing: 17 for each of 8,192 words, and 11 for the last line
-abbrev pub roomy : ℕ
-roomy = 139275
+abbrev pub listingRoom : ℕ
+listingRoom = 139275
 
 pub record Listed (bytes o : List ℕ) (r : ℕ) (p : List ℕ) : Type 0 where
   -- the listing is put from place 0 on; of a buffer that is too short it fills all
@@ -17,4 +17,4 @@ pub record Listed (bytes o : List ℕ) (r : ℕ) (p : List ℕ) : Type 0 where
   pub fits : r ≤ length p
   pub counts : r ≡ length (take r p)
   -- with room the first r bytes are the whole listing
-  pub whole : roomy ≤ length o → take r p ≡ listingOf bytes
+  pub whole : listingRoom ≤ length o → take r p ≡ listingOf bytes

@@ -11,7 +11,10 @@ use answers::put_end;
 use answers::put_lines;
 use words::read_words;
 
-// THE LISTING of a slice of bytes, put into a lent buffer, and how many bytes it took. A buffer of 139,275 bytes holds any.
+// Bytes that hold any listing: specs/Listed.antt, `listingRoom`.
+pub const LISTING_ROOM: usize = 139_275;
+
+// THE LISTING of a slice of bytes, put into a lent buffer, and how many bytes it took. A buffer of LISTING_ROOM bytes holds any.
 pub fn list(bytes: &[u8], out: &mut [u8]) -> usize
     ensures { λ r. ⌜ Listed (now (bytes .entry)) (now (out .entry)) r (now (out .exit)) ⌝ }
 {

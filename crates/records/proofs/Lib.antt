@@ -4,4 +4,3 @@ pub mod Others
 pub mod Promises
 pub mod Numbers
 pub mod With
-pub mod Fitting
