@@ -9,3 +9,4 @@ pub mod Lists
 pub mod Settings
 pub mod Writing
 pub mod Outcomes
+pub mod Crossing

@@ -5,12 +5,17 @@ ghost use Rattle.standard.specs.Words.{setOn};
 use crate::texts::set_text;
 use kinds::kind::Kind;
 use records::answers::Answer;
-
-const HEAD: u32 = 0xF003_0000;
+use table::rows::head_of;
 
 pub fn set_name(words: &mut [u32], name: &[u8]) -> Answer
     ensures answer { λ r. ⌜ r ≡ setOn (Setting.text Text.endpoint-name (now (name .entry))) (now (words .entry)) .answer ⌝ }
     ensures buffer { λ r. ⌜ now (words .exit) ≡ setOn (Setting.text Text.endpoint-name (now (name .entry))) (now (words .entry)) .words ⌝ }
 {
-    set_text(words, Kind::EndpointName, 0, HEAD, name)
+    set_text(
+        words,
+        Kind::EndpointName,
+        0,
+        head_of(Kind::EndpointName),
+        name,
+    )
 }

@@ -11,17 +11,16 @@ use kinds::kind::Kind;
 use kinds::refusal::Refusal;
 use records::answers::Answer;
 use settings::target::Target;
-
-const STATUS: u32 = 0x12;
-
-const HEAD: u32 = 0xF012_0000;
+use table::rows::head_of;
+use table::rows::row_of;
 
 // The refusals of the target, then 12; else the number goes into each packet of the message and none after.
 pub fn set_function_block(words: &mut [u32], number: u32) -> Answer
     ensures answer { λ r. ⌜ r ≡ setOn (Setting.number Number.function-block number) (now (words .entry)) .answer ⌝ }
     ensures buffer { λ r. ⌜ now (words .exit) ≡ setOn (Setting.number Number.function-block number) (now (words .entry)) .words ⌝ }
 {
-    match find_text_target(words, Kind::FunctionBlockName, STATUS) {
+    let row = row_of(Kind::FunctionBlockName);
+    match find_text_target(words, Kind::FunctionBlockName, row.status) {
         Target::Refused(refusal) => Answer::Refused(refusal),
         Target::Packets(packets) => {
             if too_large(8, number) {
@@ -37,10 +36,11 @@ pub fn set_function_block(words: &mut [u32], number: u32) -> Answer
 fn block_head(words: &[u32]) -> u32
     ensures { λ r. ⌜ r ≡ blockHead (now (words .entry)) ⌝ }
 {
+    let head = head_of(Kind::FunctionBlockName);
     if words.len() == 0 {
-        return HEAD;
+        return head;
     }
-    HEAD + words[0] / 0x100 % 0x100 * 0x100
+    head + words[0] / 0x100 % 0x100 * 0x100
 }
 
 pub fn set_name(words: &mut [u32], name: &[u8]) -> Answer

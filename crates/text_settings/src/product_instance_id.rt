@@ -5,12 +5,17 @@ ghost use Rattle.standard.specs.Words.{setOn};
 use crate::texts::set_text;
 use kinds::kind::Kind;
 use records::answers::Answer;
-
-const HEAD: u32 = 0xF004_0000;
+use table::rows::head_of;
 
 pub fn set_id(words: &mut [u32], id: &[u8]) -> Answer
     ensures answer { λ r. ⌜ r ≡ setOn (Setting.text Text.product-instance-id (now (id .entry))) (now (words .entry)) .answer ⌝ }
     ensures buffer { λ r. ⌜ now (words .exit) ≡ setOn (Setting.text Text.product-instance-id (now (id .entry))) (now (words .entry)) .words ⌝ }
 {
-    set_text(words, Kind::ProductInstanceId, 0, HEAD, id)
+    set_text(
+        words,
+        Kind::ProductInstanceId,
+        0,
+        head_of(Kind::ProductInstanceId),
+        id,
+    )
 }

@@ -22,9 +22,6 @@ abbrev μ-loop : tie.MeasureT-loop
 returns : tie.Need-returns Inv-loop μ-loop
 returns c = stayed _ _ _ (c .if1 .taken)
 
-digits-of-requires : tie.Need-digits-of-requires Inv-loop μ-loop
-digits-of-requires c κs = search needs
-
 loop-holds : tie.Need-loop-holds Inv-loop μ-loop
 loop-holds c =
     let a = c .before .before .before in
@@ -37,15 +34,6 @@ sub-i c = omega arith
 
 add-put-byte : tie.Need-add-put-byte Inv-loop μ-loop
 add-put-byte c = omega (arith, c .before .before .before .before .before .before .good .0 .1, c .before .before .before .before .if1 .left)
-
-cast-digit : tie.Need-cast-digit Inv-loop μ-loop
-cast-digit c = search needs
-
-digit-requires : tie.Need-digit-requires Inv-loop μ-loop
-digit-requires c κs = search needs
-
-put-byte-requires : tie.Need-put-byte-requires Inv-loop μ-loop
-put-byte-requires c κs = search needs
 
 loop-less : tie.Need-loop-less Inv-loop μ-loop
 loop-less c = omega arith
@@ -85,6 +73,6 @@ pub put-decimal-spec : {M : Type 1} → statement M
 put-decimal-spec =
     tie.close
     (tie.spec
-    Inv-loop μ-loop returns digits-of-requires loop-holds sub-i add-put-byte cast-digit
-    digit-requires put-byte-requires loop-less loop-again sub-if2 same-length returns-2 add-result
-    same-length-2 returns-3)
+    Inv-loop μ-loop returns (λ c κs. search needs) loop-holds sub-i add-put-byte
+    (λ c. search needs) (λ c κs. search needs) (λ c κs. search needs) loop-less loop-again sub-if2
+    same-length returns-2 add-result same-length-2 returns-3)

@@ -15,18 +15,9 @@ Inv-loop text s₀ i₀ s i = (i ≤ length text) × (verdictFrom (meaning s) i 
 abbrev μ-loop : tie.MeasureT-loop
 μ-loop text s₀ i₀ s i = length text - i
 
-new-scan-requires : tie.Need-new-scan-requires Inv-loop μ-loop
-new-scan-requires c κs = search needs
-
 loop-holds : tie.Need-loop-holds Inv-loop μ-loop
 unfolding firstBad
 loop-holds c = (search needs, rw (c .new-scan .ensures))
-
-shared-slice-read-after-byte : tie.Need-shared-slice-read-after-byte Inv-loop μ-loop
-shared-slice-read-after-byte c = search needs
-
-after-byte-requires : tie.Need-after-byte-requires Inv-loop μ-loop
-after-byte-requires c κs = search needs
 
 -- what holds after a byte was read, on both paths from there
 passed : (c : tie.After-after-byte Inv-loop μ-loop) → verdictFrom (meaning (c .after-byte .result)) (c .before .before .before .loop .i + 1) (drop (c .before .before .before .loop .i + 1) (c .before .before .before .before .before .before .args .text .now)) ≡ firstBad (c .before .before .before .before .before .before .args .text .now)
@@ -34,28 +25,13 @@ passed c =
     scan-turn _ _ _ _ (c .before .before .loop-test .taken) (c .before .shared-slice-known2 .given (c .before .before .before .loop .i) .fits) (c .after-byte .ensures)
     ∙ c .before .before .before .loop .inv .1
 
-enum-known-s : tie.Need-enum-known-s Inv-loop μ-loop
-enum-known-s c = search needs
-
 returns : tie.Need-returns Inv-loop μ-loop
 returns c =
     let l = c .before .before .before .before .before .before in
     scan-early _ (l .loop .i + 1) (drop (l .loop .i + 1) (l .before .before .before .args .text .now)) _ _ (c .before .s .given .1) (passed (c .before .before .before))
 
-enum-told : tie.Need-enum-told Inv-loop μ-loop
-enum-told c = search needs
-
-add-i : tie.Need-add-i Inv-loop μ-loop
-add-i c = search needs
-
-loop-less : tie.Need-loop-less Inv-loop μ-loop
-loop-less c = search needs
-
 loop-again : tie.Need-loop-again Inv-loop μ-loop
 loop-again c = (search needs, passed (c .before .before))
-
-verdict-at-end-requires : tie.Need-verdict-at-end-requires Inv-loop μ-loop
-verdict-at-end-requires c κs = search needs
 
 returns-2 : tie.Need-returns-2 Inv-loop μ-loop
 returns-2 c = c .verdict-at-end .ensures ∙ scan-finish _ _ _ (c .before .loop-test .left) ∙ c .before .before .loop .inv .1
@@ -64,5 +40,6 @@ pub check-utf8-spec : {M : Type 1} → statement M
 check-utf8-spec =
     tie.close
     (tie.spec
-    Inv-loop μ-loop new-scan-requires loop-holds shared-slice-read-after-byte after-byte-requires
-    enum-known-s returns enum-told add-i loop-less loop-again verdict-at-end-requires returns-2)
+    Inv-loop μ-loop (λ c κs. search needs) loop-holds (λ c. search needs) (λ c κs. search needs)
+    (λ c. search needs) returns (λ c. search needs) (λ c. search needs) (λ c. search needs)
+    loop-again (λ c κs. search needs) returns-2)

@@ -28,20 +28,8 @@ loop-holds c = (omega arith, omega arith, none-filled _ _)
 mul-with-field : tie.Need-mul-with-field Inv-loop μ-loop
 mul-with-field c = omega arith
 
-mul-with-field-2 : tie.Need-mul-with-field-2 Inv-loop μ-loop
-mul-with-field-2 c = search needs
-
 slice-read-with-field : tie.Need-slice-read-with-field Inv-loop μ-loop
 slice-read-with-field c = omega arith
-
-with-field-requires : tie.Need-with-field-requires Inv-loop μ-loop
-with-field-requires c κs = search needs
-
-mul-words : tie.Need-mul-words Inv-loop μ-loop
-mul-words c = search needs
-
-mul-words-2 : tie.Need-mul-words-2 Inv-loop μ-loop
-mul-words-2 c = search needs
 
 slice-write-words : tie.Need-slice-write-words Inv-loop μ-loop
 slice-write-words c = omega arith
@@ -66,6 +54,6 @@ pub put-each-spec : {M : Type 1} → statement M
 put-each-spec =
     tie.close
     (tie.spec
-    Inv-loop μ-loop returns loop-holds mul-with-field mul-with-field-2 slice-read-with-field
-    with-field-requires mul-words mul-words-2 slice-write-words add-p loop-less loop-again
-    same-length returns-2)
+    Inv-loop μ-loop returns loop-holds mul-with-field (λ c. search needs) slice-read-with-field
+    (λ c κs. search needs) (λ c. search needs) (λ c. search needs) slice-write-words add-p
+    loop-less loop-again same-length returns-2)

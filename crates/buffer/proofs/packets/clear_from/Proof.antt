@@ -18,14 +18,8 @@ Inv-loop words₀ from end k₀ words k = (end ≡ length words₀ / 4 * 4) × (
 abbrev μ-loop : tie.MeasureT-loop
 μ-loop words₀ from end k₀ words k = end - k
 
-mul-end : tie.Need-mul-end Inv-loop μ-loop
-mul-end c = search needs
-
 loop-holds : tie.Need-loop-holds Inv-loop μ-loop
 loop-holds c = (refl, omega arith, c .pre, found-filled _ _ _ (omega (arith, c .pre)) (λ k h. rw (lt-ltb k _ h)))
-
-mul-words : tie.Need-mul-words Inv-loop μ-loop
-mul-words c = search needs
 
 slice-write-words : tie.Need-slice-write-words Inv-loop μ-loop
 slice-write-words c = omega arith
@@ -50,5 +44,5 @@ pub clear-from-spec : {M : Type 1} → statement M
 clear-from-spec =
     tie.close
     (tie.spec
-    Inv-loop μ-loop mul-end loop-holds mul-words slice-write-words add-k loop-less loop-again
-    same-length returns)
+    Inv-loop μ-loop (λ c. search needs) loop-holds (λ c. search needs) slice-write-words add-k
+    loop-less loop-again same-length returns)

@@ -22,9 +22,6 @@ abbrev μ-loop : tie.MeasureT-loop
 next-place : (p cap to : ℕ) → to ≡ p * cap + cap → to + cap ≡ (p + 1) * cap + cap
 next-place p cap to e = rw (add-one, suc-mul p cap) (omega arith)
 
-sub-to : tie.Need-sub-to Inv-loop μ-loop
-sub-to c = search needs
-
 loop-holds : tie.Need-loop-holds Inv-loop μ-loop
 loop-holds c = (omega arith, omega arith, none-filled _ _)
 
@@ -41,21 +38,12 @@ fill-full-packet-requires c κs =
     let t = c .before .before .loop-test .taken in
     (s .pre .0, omega (arith, t, s .pre .1), omega (arith, t, s .pre .2, l .inv .2 .long), rw (l .inv .1) at (c .before .if1 .left))
 
-add-p : tie.Need-add-p Inv-loop μ-loop
-add-p c = search needs
-
-sub-to-2 : tie.Need-sub-to-2 Inv-loop μ-loop
-sub-to-2 c = search needs
-
 add-to : tie.Need-add-to Inv-loop μ-loop
 add-to c =
     let s = c .before .before .before .before .before .before .before .before .before in
     let l = c .before .before .before .before .before .before .loop in
     let b = product {p = l .p} {cap = 14 - s .args .offset} (omega (arith, c .before .before .before .before .before .loop-test .taken, s .pre .1)) (omega arith) in
     omega (arith, l .inv .1, b)
-
-loop-less : tie.Need-loop-less Inv-loop μ-loop
-loop-less c = search needs
 
 loop-again : tie.Need-loop-again Inv-loop μ-loop
 loop-again c =
@@ -74,5 +62,6 @@ pub fill-full-packets-spec : {M : Type 1} → statement M
 fill-full-packets-spec =
     tie.close
     (tie.spec
-    Inv-loop μ-loop sub-to loop-holds same-length returns fill-full-packet-requires add-p sub-to-2
-    add-to loop-less loop-again same-length-2 returns-2)
+    Inv-loop μ-loop (λ c. search needs) loop-holds same-length returns fill-full-packet-requires
+    (λ c. search needs) (λ c. search needs) add-to (λ c. search needs) loop-again same-length-2
+    returns-2)

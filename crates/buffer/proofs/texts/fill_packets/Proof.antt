@@ -22,12 +22,6 @@ fill-any-packet-requires c κs =
     let s = c .before .before .before .before .before in
     (s .pre .0, omega (arith, c .before .loop-test .taken, s .pre .1, s .pre .2), omega (arith, c .before .loop-test .taken, s .pre .3, c .before .before .loop .inv .1 .long))
 
-add-p : tie.Need-add-p Inv-loop μ-loop
-add-p c = search needs
-
-loop-less : tie.Need-loop-less Inv-loop μ-loop
-loop-less c = search needs
-
 loop-again : tie.Need-loop-again Inv-loop μ-loop
 loop-again c =
     let s = c .before .before .before .before .before .before .before .before in
@@ -45,4 +39,5 @@ pub fill-packets-spec : {M : Type 1} → statement M
 fill-packets-spec =
     tie.close
     (tie.spec
-    Inv-loop μ-loop loop-holds fill-any-packet-requires add-p loop-less loop-again same-length returns)
+    Inv-loop μ-loop loop-holds fill-any-packet-requires (λ c. search needs) (λ c. search needs)
+    loop-again same-length returns)

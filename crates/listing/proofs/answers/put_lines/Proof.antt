@@ -18,14 +18,8 @@ abbrev μ-loop : tie.MeasureT-loop
 loop-holds : tie.Need-loop-holds Inv-loop μ-loop
 loop-holds c = (refl, going-all _ _ _)
 
-walk-requires : tie.Need-walk-requires Inv-loop μ-loop
-walk-requires c κs = search needs
-
 put-line-requires : tie.Need-put-line-requires Inv-loop μ-loop
 put-line-requires c κs = c .before .walk .ensures
-
-next-of-requires : tie.Need-next-of-requires Inv-loop μ-loop
-next-of-requires c κs = search needs
 
 loop-less : tie.Need-loop-less Inv-loop μ-loop
 loop-less c = omega (arith, next-between _ _ _ _ (c .before .before .before .before .before .before .loop-test .taken) (c .before .before .before .before .before .walk .ensures) (c .next-of .ensures))
@@ -35,9 +29,6 @@ loop-again c = let l = c .before .before .before .before .before .before .before
     let w = c .before .before .before .put-line in
     (w .kept .0 ∙ l .0, going-turn _ (l .1) (c .before .before .before .before .before .before .loop-test .taken) (c .before .before .before .before .before .walk .ensures) (w .ensures) (c .next-of .ensures))
 
-same-length : tie.Need-same-length Inv-loop μ-loop
-same-length c = search needs
-
 returns : tie.Need-returns Inv-loop μ-loop
 returns c = going-none (c .before .loop .inv .1) (c .loop-test .left)
 
@@ -45,5 +36,5 @@ pub put-lines-spec : {M : Type 1} → statement M
 put-lines-spec =
     tie.close
     (tie.spec
-    Inv-loop μ-loop loop-holds walk-requires put-line-requires next-of-requires loop-less
-    loop-again same-length returns)
+    Inv-loop μ-loop loop-holds (λ c κs. search needs) put-line-requires (λ c κs. search needs)
+    loop-less loop-again (λ c. search needs) returns)

@@ -18,32 +18,14 @@ Inv-loop out₀ at words offset p₀ place₀ out p place = (length out ≡ leng
 abbrev μ-loop : tie.MeasureT-loop
 μ-loop out₀ at words offset p₀ place₀ out p place = length (ahead words (14 - offset) place)
 
-start-requires : tie.Need-start-requires Inv-loop μ-loop
-start-requires c κs = search needs
-
 loop-holds : tie.Need-loop-holds Inv-loop μ-loop
 loop-holds c = let a = c .before .before .before .args in
     rw (c .start .ensures)
     (refl, ahead-start (a .words .now) (14 - a .offset) (omega arith), rw (ahead-all (a .words .now) (14 - a .offset) (omega arith)) (to-write-all _ _ _))
 
-step-requires : tie.Need-step-requires Inv-loop μ-loop
-step-requires c κs = search needs
-
-enum-told : tie.Need-enum-told Inv-loop μ-loop
-enum-told c = search needs
-
-same-length : tie.Need-same-length Inv-loop μ-loop
-same-length c = search needs
-
 returns : tie.Need-returns Inv-loop μ-loop
 returns c = let l = c .before .before .before .loop .inv in
     to-write-none (l .2) (hex-none _ _ _ (l .1) _ (c .before .before .step .ensures) (c .enum-told .given .1))
-
-enum-known-found : tie.Need-enum-known-found Inv-loop μ-loop
-enum-known-found c = search needs
-
-put-hex-requires : tie.Need-put-hex-requires Inv-loop μ-loop
-put-hex-requires c κs = search needs
 
 loop-less : tie.Need-loop-less Inv-loop μ-loop
 loop-less c = let l = c .before .before .before .before .before .before .before .before .before .loop .inv in
@@ -60,5 +42,5 @@ pub put-bytes-spec : {M : Type 1} → statement M
 put-bytes-spec =
     tie.close
     (tie.spec
-    Inv-loop μ-loop start-requires loop-holds step-requires enum-told same-length returns
-    enum-known-found put-hex-requires loop-less loop-again)
+    Inv-loop μ-loop (λ c κs. search needs) loop-holds (λ c κs. search needs) (λ c. search needs)
+    (λ c. search needs) returns (λ c. search needs) (λ c κs. search needs) loop-less loop-again)

@@ -21,18 +21,6 @@ loop-holds c = (omega arith, refl)
 returns : tie.Need-returns Inv-loop μ-loop
 returns c = within-short _ _ (c .before .before .loop .i) (c .before .loop-test .taken) (c .if1 .taken) ∙ c .before .before .loop .inv .1
 
-mul-if2 : tie.Need-mul-if2 Inv-loop μ-loop
-mul-if2 c = search needs
-
-shared-slice-read-if2 : tie.Need-shared-slice-read-if2 Inv-loop μ-loop
-shared-slice-read-if2 c = search needs
-
-mul-if2-2 : tie.Need-mul-if2-2 Inv-loop μ-loop
-mul-if2-2 c = search needs
-
-shared-slice-read-if2-2 : tie.Need-shared-slice-read-if2-2 Inv-loop μ-loop
-shared-slice-read-if2-2 c = search needs
-
 returns-2 : tie.Need-returns-2 Inv-loop μ-loop
 returns-2 c = within-bad _ _ (c .before .before .before .before .before .loop .i) (c .before .before .before .before .loop-test .taken) (c .before .before .before .if1 .left) (c .if2 .taken) ∙ c .before .before .before .before .before .loop .inv .1
 
@@ -52,5 +40,5 @@ pub are-within-spec : {M : Type 1} → statement M
 are-within-spec =
     tie.close
     (tie.spec
-    Inv-loop μ-loop loop-holds returns mul-if2 shared-slice-read-if2 mul-if2-2
-    shared-slice-read-if2-2 returns-2 add-i loop-less loop-again returns-3)
+    Inv-loop μ-loop loop-holds returns (λ c. search needs) (λ c. search needs) (λ c. search needs)
+    (λ c. search needs) returns-2 add-i loop-less loop-again returns-3)

@@ -19,41 +19,14 @@ abbrev μ-loop : tie.MeasureT-loop
 returns : tie.Need-returns Inv-loop μ-loop
 returns c = ap packet (no-words _ _ (c .if1 .taken))
 
-shared-slice-read-type-of : tie.Need-shared-slice-read-type-of Inv-loop μ-loop
-shared-slice-read-type-of c = search needs
-
-type-of-requires : tie.Need-type-of-requires Inv-loop μ-loop
-type-of-requires c κs = search needs
-
 returns-2 : tie.Need-returns-2 Inv-loop μ-loop
 returns-2 c = ap packet (other-type _ _ (λ e. c .if2 .taken (c .before .type-of .ensures ∙ e)))
 
 loop-holds : tie.Need-loop-holds Inv-loop μ-loop
 loop-holds c = refl
 
-like-first-requires : tie.Need-like-first-requires Inv-loop μ-loop
-like-first-requires c κs = search needs
-
-mul-format-of : tie.Need-mul-format-of Inv-loop μ-loop
-mul-format-of c = search needs
-
-mul-format-of-2 : tie.Need-mul-format-of-2 Inv-loop μ-loop
-mul-format-of-2 c = search needs
-
 shared-slice-read-format-of : tie.Need-shared-slice-read-format-of Inv-loop μ-loop
 shared-slice-read-format-of c = let h = like-there _ _ _ (sym (c .before .before .like-first .ensures) ∙ c .before .if3 .taken) in omega (arith, h)
-
-format-of-requires : tie.Need-format-of-requires Inv-loop μ-loop
-format-of-requires c κs = search needs
-
-add-due-format : tie.Need-add-due-format Inv-loop μ-loop
-add-due-format c = search needs
-
-due-format-requires : tie.Need-due-format-requires Inv-loop μ-loop
-due-format-requires c κs = search needs
-
-ends-at-requires : tie.Need-ends-at-requires Inv-loop μ-loop
-ends-at-requires c κs = search needs
 
 returns-3 : tie.Need-returns-3 Inv-loop μ-loop
 returns-3 c =
@@ -63,12 +36,6 @@ returns-3 c =
     let is = sym (like .like-first .ensures) ∙ d .before .before .before .if3 .taken in
     let no = ne-eqb _ _ (λ e. c .before .if4 .taken (d .before .format-of .ensures ∙ e ∙ sym (d .due-format .ensures))) in
     ap packet (c .ends-at .ensures ∙ rw (d .before .format-of .ensures) (same-type _ _ _ (sym (loop .before .before .type-of .ensures) ∙ loop .before .if2 .left) (sym (loop .loop .inv ∙ turn-ends _ _ _ (like .before .loop-test .taken) is no))))
-
-add-p : tie.Need-add-p Inv-loop μ-loop
-add-p c = search needs
-
-loop-less : tie.Need-loop-less Inv-loop μ-loop
-loop-less c = search needs
 
 loop-again : tie.Need-loop-again Inv-loop μ-loop
 loop-again c =
@@ -92,7 +59,7 @@ pub headed-packets-spec : {M : Type 1} → statement M
 headed-packets-spec =
     tie.close
     (tie.spec
-    Inv-loop μ-loop returns shared-slice-read-type-of type-of-requires returns-2 loop-holds
-    like-first-requires mul-format-of mul-format-of-2 shared-slice-read-format-of
-    format-of-requires add-due-format due-format-requires ends-at-requires returns-3 add-p
-    loop-less loop-again returns-4 returns-5)
+    Inv-loop μ-loop returns (λ c. search needs) (λ c κs. search needs) returns-2 loop-holds
+    (λ c κs. search needs) (λ c. search needs) (λ c. search needs) shared-slice-read-format-of
+    (λ c κs. search needs) (λ c. search needs) (λ c κs. search needs) (λ c κs. search needs)
+    returns-3 (λ c. search needs) (λ c. search needs) loop-again returns-4 returns-5)

@@ -20,27 +20,9 @@ loop-holds : tie.Need-loop-holds Inv-loop μ-loop
 unfolding first
 loop-holds c = (search needs, rw sub-zero)
 
-mul-ends-message : tie.Need-mul-ends-message Inv-loop μ-loop
-mul-ends-message c = search needs
-
-mul-ends-message-2 : tie.Need-mul-ends-message-2 Inv-loop μ-loop
-mul-ends-message-2 c = search needs
-
-shared-slice-read-ends-message : tie.Need-shared-slice-read-ends-message Inv-loop μ-loop
-shared-slice-read-ends-message c = search needs
-
-ends-message-requires : tie.Need-ends-message-requires Inv-loop μ-loop
-ends-message-requires c κs = search needs
-
 returns : tie.Need-returns Inv-loop μ-loop
 unfolding ends
 returns c = first-hit (endsMessage (c .before .before .before .before .before .before .args .words .now)) _ _ (c .before .before .before .loop-test .taken) (sym (c .before .ends-message .ensures) ∙ c .if1 .taken) ∙ c .before .before .before .before .loop .inv .1
-
-add-p : tie.Need-add-p Inv-loop μ-loop
-add-p c = search needs
-
-loop-less : tie.Need-loop-less Inv-loop μ-loop
-loop-less c = search needs
 
 loop-again : tie.Need-loop-again Inv-loop μ-loop
 unfolding ends
@@ -53,5 +35,5 @@ pub first-end-spec : {M : Type 1} → statement M
 first-end-spec =
     tie.close
     (tie.spec
-    Inv-loop μ-loop loop-holds mul-ends-message mul-ends-message-2 shared-slice-read-ends-message
-    ends-message-requires returns add-p loop-less loop-again returns-2)
+    Inv-loop μ-loop loop-holds (λ c. search needs) (λ c. search needs) (λ c. search needs)
+    (λ c κs. search needs) returns (λ c. search needs) (λ c. search needs) loop-again returns-2)

@@ -19,29 +19,8 @@ loop-holds : tie.Need-loop-holds Inv-loop μ-loop
 unfolding first
 loop-holds c = (search needs, rw sub-zero)
 
-shared-slice-read-breaks : tie.Need-shared-slice-read-breaks Inv-loop μ-loop
-shared-slice-read-breaks c = search needs
-
-mul-breaks : tie.Need-mul-breaks Inv-loop μ-loop
-mul-breaks c = search needs
-
-mul-breaks-2 : tie.Need-mul-breaks-2 Inv-loop μ-loop
-mul-breaks-2 c = search needs
-
-shared-slice-read-breaks-2 : tie.Need-shared-slice-read-breaks-2 Inv-loop μ-loop
-shared-slice-read-breaks-2 c = search needs
-
-breaks-requires : tie.Need-breaks-requires Inv-loop μ-loop
-breaks-requires c κs = search needs
-
 returns : tie.Need-returns Inv-loop μ-loop
 returns c = first-hit (brokenBy (c .before .before .before .before .before .before .before .args .rule) (c .before .before .before .before .before .before .before .args .words .now)) _ _ (c .before .before .before .before .loop-test .taken) (sym (c .before .breaks .ensures) ∙ c .if1 .taken) ∙ c .before .before .before .before .before .loop .inv .1
-
-add-p : tie.Need-add-p Inv-loop μ-loop
-add-p c = search needs
-
-loop-less : tie.Need-loop-less Inv-loop μ-loop
-loop-less c = search needs
 
 loop-again : tie.Need-loop-again Inv-loop μ-loop
 loop-again c = (search needs, first-turn (brokenBy (c .before .before .before .before .before .before .before .args .rule) (c .before .before .before .before .before .before .before .args .words .now)) _ _ (c .before .before .before .before .loop-test .taken) (sym (c .before .breaks .ensures) ∙ c .if1 .left) ∙ c .before .before .before .before .before .loop .inv .1)
@@ -53,5 +32,6 @@ pub first-broken-spec : {M : Type 1} → statement M
 first-broken-spec =
     tie.close
     (tie.spec
-    Inv-loop μ-loop loop-holds shared-slice-read-breaks mul-breaks mul-breaks-2
-    shared-slice-read-breaks-2 breaks-requires returns add-p loop-less loop-again returns-2)
+    Inv-loop μ-loop loop-holds (λ c. search needs) (λ c. search needs) (λ c. search needs)
+    (λ c. search needs) (λ c κs. search needs) returns (λ c. search needs) (λ c. search needs)
+    loop-again returns-2)

@@ -21,29 +21,14 @@ Inv-loop words offset place₀ place = Sought words (14 - offset) place₀ place
 abbrev μ-loop : tie.MeasureT-loop
 μ-loop words offset place₀ place = length words / 4 * (14 - offset) - byteFrom (14 - offset) place
 
-end-at-requires : tie.Need-end-at-requires Inv-loop μ-loop
-end-at-requires c κs = search needs
-
 returns : tie.Need-returns Inv-loop μ-loop
 returns c = c .end-at .ensures ∙ sym (step-over _ _ (c .before .before .before .args .at) (omega arith))
-
-sub-if2 : tie.Need-sub-if2 Inv-loop μ-loop
-sub-if2 c = search needs
-
-end-at-requires-2 : tie.Need-end-at-requires-2 Inv-loop μ-loop
-end-at-requires-2 c κs = search needs
 
 returns-2 : tie.Need-returns-2 Inv-loop μ-loop
 returns-2 c = c .end-at2 .ensures ∙ sym (step-over _ _ (c .before .before .before .before .before .args .at) (omega arith))
 
 loop-holds : tie.Need-loop-holds Inv-loop μ-loop
 loop-holds c = record { low = omega arith; same = refl }
-
-text-byte-requires : tie.Need-text-byte-requires Inv-loop μ-loop
-text-byte-requires c κs = search needs
-
-sub-next-place : tie.Need-sub-next-place Inv-loop μ-loop
-sub-next-place c = search needs
 
 next-place-requires : tie.Need-next-place-requires Inv-loop μ-loop
 next-place-requires c κs = (omega arith, omega arith)
@@ -71,9 +56,6 @@ loop-again c =
       same = l .inv .same ∙ step-zero _ _ (l .place) (c .before .before .before .if3 .taken) (l .inv .low) (sym (c .before .before .text-byte .ensures ∙ byte-in _ _ (l .place) (c .before .before .before .if3 .taken) (l .inv .low)) ∙ c .if4 .left);
     })
 
-end-at-requires-3 : tie.Need-end-at-requires-3 Inv-loop μ-loop
-end-at-requires-3 c κs = search needs
-
 returns-4 : tie.Need-returns-4 Inv-loop μ-loop
 returns-4 c = c .end-at3 .ensures ∙ sym (c .before .before .before .loop .inv .same ∙ step-past _ _ _ (c .before .if3 .left))
 
@@ -81,6 +63,6 @@ pub step-spec : {M : Type 1} → statement M
 step-spec =
     tie.close
     (tie.spec
-    Inv-loop μ-loop end-at-requires returns sub-if2 end-at-requires-2 returns-2 loop-holds
-    text-byte-requires sub-next-place next-place-requires returns-3 loop-less loop-again
-    end-at-requires-3 returns-4)
+    Inv-loop μ-loop (λ c κs. search needs) returns (λ c. search needs) (λ c κs. search needs)
+    returns-2 loop-holds (λ c κs. search needs) (λ c. search needs) next-place-requires returns-3
+    loop-less loop-again (λ c κs. search needs) returns-4)

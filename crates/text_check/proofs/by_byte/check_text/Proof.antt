@@ -19,17 +19,8 @@ abbrev μ-loop : tie.MeasureT-loop
 returns : tie.Need-returns Inv-loop μ-loop
 returns c = no-capacity _ _ _ (omega arith)
 
-new-skipping-scan-requires : tie.Need-new-skipping-scan-requires Inv-loop μ-loop
-new-skipping-scan-requires c κs = search needs
-
 loop-holds : tie.Need-loop-holds Inv-loop μ-loop
 loop-holds c = rw (c .new-skipping-scan .ensures) (to-check-begin _ _ _ (omega arith))
-
-text-byte-requires : tie.Need-text-byte-requires Inv-loop μ-loop
-text-byte-requires c κs = search needs
-
-read-byte-requires : tie.Need-read-byte-requires Inv-loop μ-loop
-read-byte-requires c κs = search needs
 
 -- what holds after a byte was read, on every path from there
 passed : (c : tie.After-read-byte Inv-loop μ-loop) → AfterByte (c .before .before .before .before .before .before .before .args .words .now) (14 - c .before .before .before .before .before .before .before .args .offset) (length (c .before .before .before .before .before .before .before .args .words .now) / 4) (c .read-byte .result) (c .before .before .before .loop .p) (c .before .before .before .loop .b)
@@ -38,38 +29,14 @@ passed c =
     let start = l .before .before .before .before in
     to-check-turn _ _ _ (l .loop .r) _ (l .loop .p) (l .loop .b) (c .before .before .loop-test .taken) (omega (arith, start .good .0 .1, l .loop .inv .few, l .loop .inv .low)) (l .loop .inv) (c .read-byte .ensures ∙ ap (afterRead _) (c .before .text-byte .ensures ∙ byte-in _ _ _ (c .before .before .loop-test .taken) (l .loop .inv .low)))
 
-enum-known-s : tie.Need-enum-known-s Inv-loop μ-loop
-enum-known-s c = search needs
-
 returns-2 : tie.Need-returns-2 Inv-loop μ-loop
 returns-2 c = to-check-stop _ _ _ _ _ _ _ (passed (c .before .before .before)) (c .before .s .given .1)
-
-enum-told : tie.Need-enum-told Inv-loop μ-loop
-enum-told c = search needs
-
-add-b : tie.Need-add-b Inv-loop μ-loop
-add-b c = search needs
-
-sub-if2 : tie.Need-sub-if2 Inv-loop μ-loop
-sub-if2 c = search needs
-
-add-p : tie.Need-add-p Inv-loop μ-loop
-add-p c = search needs
-
-loop-less : tie.Need-loop-less Inv-loop μ-loop
-loop-less c = search needs
 
 loop-again : tie.Need-loop-again Inv-loop μ-loop
 loop-again c = to-check-next-packet _ _ _ _ _ _ (c .if2 .taken) (omega arith) (passed (c .before .before .before))
 
-loop-less-2 : tie.Need-loop-less-2 Inv-loop μ-loop
-loop-less-2 c = search needs
-
 loop-again-2 : tie.Need-loop-again-2 Inv-loop μ-loop
 loop-again-2 c = to-check-next-byte _ _ _ _ _ _ (omega arith) (passed (c .before .before .before))
-
-verdict-at-end-requires : tie.Need-verdict-at-end-requires Inv-loop μ-loop
-verdict-at-end-requires c κs = search needs
 
 returns-3 : tie.Need-returns-3 Inv-loop μ-loop
 returns-3 c = c .verdict-at-end .ensures ∙ to-check-finish _ _ _ (c .before .before .loop .r) _ _ (c .before .loop-test .left) (c .before .before .loop .inv)
@@ -78,6 +45,7 @@ pub check-text-spec : {M : Type 1} → statement M
 check-text-spec =
     tie.close
     (tie.spec
-    Inv-loop μ-loop returns new-skipping-scan-requires loop-holds text-byte-requires read-byte-requires
-    enum-known-s returns-2 enum-told add-b sub-if2 add-p loop-less loop-again loop-less-2
-    loop-again-2 verdict-at-end-requires returns-3)
+    Inv-loop μ-loop returns (λ c κs. search needs) loop-holds (λ c κs. search needs)
+    (λ c κs. search needs) (λ c. search needs) returns-2 (λ c. search needs) (λ c. search needs)
+    (λ c. search needs) (λ c. search needs) (λ c. search needs) loop-again (λ c. search needs)
+    loop-again-2 (λ c κs. search needs) returns-3)

@@ -19,9 +19,6 @@ abbrev μ-loop : tie.MeasureT-loop
 loop-holds : tie.Need-loop-holds Inv-loop μ-loop
 loop-holds c = (search needs, answer-start _)
 
-shared-slice-read-step-keeping-zeros : tie.Need-shared-slice-read-step-keeping-zeros Inv-loop μ-loop
-shared-slice-read-step-keeping-zeros c = search needs
-
 step-keeping-zeros-requires : tie.Need-step-keeping-zeros-requires Inv-loop μ-loop
 step-keeping-zeros-requires c κs = omega (arith, c .before .before .loop .inv .1 .state .below)
 
@@ -39,20 +36,11 @@ byte c =
 returns : tie.Need-returns Inv-loop μ-loop
 returns c = answer-bad _ _ _ (c .if1 .taken) (byte (c .before))
 
-add-i : tie.Need-add-i Inv-loop μ-loop
-add-i c = search needs
-
-skip-by-words-requires : tie.Need-skip-by-words-requires Inv-loop μ-loop
-skip-by-words-requires c κs = search needs
-
 loop-less : tie.Need-loop-less Inv-loop μ-loop
 loop-less c = let o = c .skip-by-words .ensures .forward in let w = c .skip-by-words .ensures .in-bounds in omega arith
 
 loop-again : tie.Need-loop-again Inv-loop μ-loop
 loop-again c = (c .skip-by-words .ensures .in-bounds, rw (c .before .if2 .taken) (skip-at _ _ _ _ (c .skip-by-words .ensures) (rw (c .before .if2 .taken) at (byte (c .before .before .before)))))
-
-loop-less-2 : tie.Need-loop-less-2 Inv-loop μ-loop
-loop-less-2 c = search needs
 
 loop-again-2 : tie.Need-loop-again-2 Inv-loop μ-loop
 loop-again-2 c = (search needs, byte (c .before .before))
@@ -64,5 +52,6 @@ pub is-good-from-spec : {M : Type 1} → statement M
 is-good-from-spec =
     tie.close
     (tie.spec
-    Inv-loop μ-loop loop-holds shared-slice-read-step-keeping-zeros step-keeping-zeros-requires returns add-i
-    skip-by-words-requires loop-less loop-again loop-less-2 loop-again-2 returns-2)
+    Inv-loop μ-loop loop-holds (λ c. search needs) step-keeping-zeros-requires returns
+    (λ c. search needs) (λ c κs. search needs) loop-less loop-again (λ c. search needs)
+    loop-again-2 returns-2)

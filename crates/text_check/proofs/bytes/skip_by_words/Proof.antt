@@ -17,17 +17,8 @@ abbrev μ-loop : tie.MeasureT-loop
 returns : tie.Need-returns Inv-loop μ-loop
 returns c = skip-none _ _ (search needs)
 
-sub-last : tie.Need-sub-last Inv-loop μ-loop
-sub-last c = search needs
-
 loop-holds : tie.Need-loop-holds Inv-loop μ-loop
 loop-holds c = skip-none _ _ (search needs)
-
-big-endian-requires : tie.Need-big-endian-requires Inv-loop μ-loop
-big-endian-requires c κs = search needs
-
-whole-characters-requires : tie.Need-whole-characters-requires Inv-loop μ-loop
-whole-characters-requires c κs = search needs
 
 returns-2 : tie.Need-returns-2 Inv-loop μ-loop
 returns-2 c = c .before .before .before .before .loop .inv
@@ -48,5 +39,5 @@ pub skip-by-words-spec : {M : Type 1} → statement M
 skip-by-words-spec =
     tie.close
     (tie.spec
-    Inv-loop μ-loop returns sub-last loop-holds big-endian-requires whole-characters-requires returns-2 add-i
-    loop-less loop-again returns-3)
+    Inv-loop μ-loop returns (λ c. search needs) loop-holds (λ c κs. search needs)
+    (λ c κs. search needs) returns-2 add-i loop-less loop-again returns-3)

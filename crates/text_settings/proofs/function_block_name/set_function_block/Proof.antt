@@ -2,37 +2,23 @@
 use mathlib.Core.Path.{refl, sym, _∙_}
 use Rattle.kinds.specs.declared.kind.Kind.the-variants as K
 use Rattle.kinds.specs.Fields.{Text}
-use Rattle.kinds.specs.Layout.{layout}
 use Rattle.settings.proofs.Slots.{facts}
+use Rattle.standard.proofs.Outcome.{said, said-as}
 use Rattle.text_settings.proofs.Plans.{each-refused, each-large, each-done}
 use Rattle.text_settings.proofs.Rows.{set-each}
 use borrow.Author.Needs.{needs}
-use Rattle.standard.proofs.Outcome.{said, said-as}
-use Rattle.text_settings.proofs.function_block_name.set_function_block.Statement.{
-  statement,
-}
+use Rattle.text_settings.proofs.function_block_name.set_function_block.Statement.{statement}
 use Rattle.text_settings.proofs.function_block_name.set_function_block.Tie as tie
 
-find-text-target-requires : tie.Need-find-text-target-requires
-unfolding layout
-find-text-target-requires c κs = refl
-
-returns : tie.Need-returns
-unfolding facts
-returns c = said-as (set-each K.FunctionBlockName _ Text.function-block-name 3 8 8 _ refl refl _ refl) (said (each-large _ _ _ _ _ (sym (c .before .before .before .before .before .find-text-target .ensures) ∙ c .before .before .before .packets .given .1) (sym (c .before .too-large .ensures) ∙ c .if1 .taken)))
-
-returns-2 : tie.Need-returns-2
-unfolding facts
-returns-2 c = said-as (set-each K.FunctionBlockName _ Text.function-block-name 3 8 8 _ refl refl _ refl) (said (each-refused _ _ _ _ _ (sym (c .before .before .before .find-text-target .ensures) ∙ c .before .refusal .given .1)))
-
-returns-3 : tie.Need-returns-3
-unfolding facts
-returns-3 c = said-as (set-each K.FunctionBlockName _ Text.function-block-name 3 8 8 _ refl refl _ refl) (rw (c .before .before .put-each .ensures) (said (each-done _ _ _ _ _ (sym (c .before .before .before .before .before .before .before .before .before .find-text-target .ensures) ∙ c .before .before .before .before .before .before .before .packets .given .1) (sym (c .before .before .before .before .before .too-large .ensures) ∙ c .before .before .before .before .if1 .left))))
-
 pub set-function-block-spec : {M : Type 1} → statement M
+unfolding facts
 set-function-block-spec =
     tie.close
     (tie.spec
-    find-text-target-requires (λ c. search needs) (λ c. search needs) (λ c κs. search needs)
-    (λ c. search needs) returns (λ c κs. search needs) (λ c. search needs) returns-2
-    (λ c. search needs) returns-3)
+    (λ c κs. search needs) (λ c κs. c .before .row-of .ensures .status) (λ c. search needs)
+    (λ c. search needs) (λ c κs. search needs) (λ c. search needs)
+    (λ c. said-as (set-each K.FunctionBlockName _ Text.function-block-name 3 8 8 _ refl refl _ refl) (said (each-large _ _ _ _ _ (sym (rw (c .before .before .before .before .before .before .before .row-of .ensures .status) at (c .before .before .before .before .before .find-text-target .ensures)) ∙ c .before .before .before .packets .given .1) (sym (c .before .too-large .ensures) ∙ c .if1 .taken))))
+    (λ c κs. search needs) (λ c. search needs)
+    (λ c. said-as (set-each K.FunctionBlockName _ Text.function-block-name 3 8 8 _ refl refl _ refl) (said (each-refused _ _ _ _ _ (sym (rw (c .before .before .before .before .before .row-of .ensures .status) at (c .before .before .before .find-text-target .ensures)) ∙ c .before .refusal .given .1))))
+    (λ c. search needs)
+    (λ c. said-as (set-each K.FunctionBlockName _ Text.function-block-name 3 8 8 _ refl refl _ refl) (rw (c .before .before .put-each .ensures) (said (each-done _ _ _ _ _ (sym (rw (c .before .before .before .before .before .before .before .before .before .before .before .row-of .ensures .status) at (c .before .before .before .before .before .before .before .before .before .find-text-target .ensures)) ∙ c .before .before .before .before .before .before .before .packets .given .1) (sym (c .before .before .before .before .before .too-large .ensures) ∙ c .before .before .before .before .if1 .left))))))
