@@ -69,7 +69,7 @@ byteCrossed T.End = 0
 abbrev pub stepCrossed : Stepped → StepAnswer
 stepCrossed s = record { byte = byteCrossed (s .step); packet = s .place .packet .0; «byte_number» = s .place .byte .0 }
 
--- refused, the numbers are handed back as they came
+-- a refused call hands the numbers back unchanged
 abbrev pub editedCrossed : Answer → Message → Numbers → RecordAnswer
 editedCrossed A.Done m c = withRecord m
 editedCrossed (A.Refused r) m c = withRefusal r c

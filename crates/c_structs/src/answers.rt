@@ -92,7 +92,7 @@ pub fn of_answer(answer: Answer) -> Answered
     }
 }
 
-// A record that is handed back as it came.
+// A refused call hands the record back unchanged.
 pub fn refused_record(refusal: Refusal, numbers: Numbers) -> RecordAnswer
     ensures { λ r. ⌜ r ≡ withRefusal refusal numbers ⌝ }
 {
@@ -236,7 +236,7 @@ pub fn of_step(stepped: Stepped) -> StepAnswer
     }
 }
 
-// A setting on the record that these numbers are.
+// The answer of a setting on a record that came as these numbers.
 pub fn of_edited(edited: Edited, numbers: Numbers) -> RecordAnswer
     ensures { λ r. ⌜ r ≡ editedCrossed (edited .answer) (edited .message) numbers ⌝ }
 {

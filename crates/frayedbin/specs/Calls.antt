@@ -1,4 +1,4 @@
--- What a call does with a code or a record that came over: first it is made a choice or a record, or refused; then the call of that name.
+-- Calls with a code or a record from C: the code or record is checked first, then the call of that name is made.
 use Prim.Native.Nat.{ℕ}
 use mathlib.Core.List.{List}
 use Rattle.counts.specs.Counts.{packet, byte}
@@ -47,7 +47,7 @@ directionSet (D.Refused r) ws = unchanged r ws
 abbrev pub directionOn : ℕ → List ℕ → Outcome
 directionOn n ws = directionSet (directionFromCode n) ws
 
--- ---- on a record: numbers that are no record are handed back as they came
+-- ---- on a record: numbers that are no record are handed back unchanged
 abbrev setFrom : FromNumbers → (Message → Setting) → Numbers → RecordAnswer
 setFrom (G.Message m) s c = editedCrossed (setRecord (s m) m .answer) (setRecord (s m) m .message) c
 setFrom (G.Refused r) s c = withRefusal r c

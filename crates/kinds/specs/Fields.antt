@@ -46,7 +46,7 @@ pub data Field : Type 0 where
   text : Text → Field
   deriving Discrete as Field-discrete
 
--- one field, or two
+-- whether two fields are the same
 unfoldable pub decided : {A : Type 0} → Dec A → Bool
 decided (yes a) = true
 decided (no a) = false
@@ -129,7 +129,7 @@ partOf Field.device-manufacturer v i = getD v i 0
 partOf Field.software-version v i = getD v i 0
 partOf (Field.text t) v i = 0
 
--- the value of which these are the parts
+-- the value that has these parts
 unfoldable pub joined : Field → List ℕ → List ℕ
 joined (Field.flag f) xs = xs
 joined (Field.number n) xs = xs

@@ -113,7 +113,7 @@ layout K.ProductInstanceId = row 0x04 [] (texts Text.product-instance-id 2)
 layout K.FunctionBlockInfo = row 0x11 blockFields fixed
 layout K.FunctionBlockName = row 0x12 nameFields (texts Text.function-block-name 3)
 
--- ---- by the table
+-- ---- read off the table
 
 -- text bytes of a packet: what the sixteen octets leave from where it starts; none without text
 abbrev pub capacityIn : Body → ℕ
@@ -163,7 +163,7 @@ isText f (texts t start) = same f (Field.text t)
 abbrev pub parts : (Field → List ℕ) → Part → ℕ
 parts v p = partOf (p .field) (v (p .field)) (p .index)
 
--- the value that the words hold of a field: its start where the table lacks the field
+-- a field's value in the words; its starting value if the table lacks the field
 unfoldable pub held : Field → List ℕ → List ℕ
 held f [] = start f
 held f (x ∷ xs) = joined f (x ∷ xs)

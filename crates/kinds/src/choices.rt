@@ -70,7 +70,7 @@ pub fn format_code(format: Format) -> u32
     }
 }
 
-// The choice of a code: 3 is taken as restricted and direction 0 as both, which reading refuses before.
+// The choice of a code. Port 3 and direction 0 name no choice: callers refuse them first.
 
 pub fn hint_of(code: u8) -> UiHint
     ensures { λ r. ⌜ r ≡ hintOf code ⌝ }

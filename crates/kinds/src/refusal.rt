@@ -1,4 +1,4 @@
-// Why a call is refused. A case holds its place in the count that it is in; specs/Refusals.antt has the document's number of each.
+// Why a call is refused. A case with a place holds it; specs/Refusals.antt has the document's numbers, docs/REFUSALS.md all of them.
 ghost use mathlib.Core.Path.{_≡_};
 ghost use Rattle.kinds.specs.Refusals.{refusalNumber, refusalPlace};
 use counts::PacketNumber;
@@ -42,7 +42,7 @@ pub fn refusal_number(refusal: Refusal) -> u32
     }
 }
 
-// The packet that is refused, and 0 where the refusal has no place.
+// The packet that is refused, or 0 if the refusal has no place.
 pub fn refusal_place(refusal: Refusal) -> usize
     ensures { λ r. ⌜ r ≡ refusalPlace refusal ⌝ }
 {

@@ -34,7 +34,7 @@ abbrev textShown : Body → ℕ → List ℕ → List ℕ
 textShown fixed n ws = []
 textShown (texts t from) n ws = ascii " " ++ hexOrDash (textOf ws (capacityIn (texts t from)) n)
 
--- a message's packets and its nine numbers as they cross, 0 past its last
+-- a message's packets and its nine numbers, 0 past its last
 abbrev tenIn : Numbers → List ℕ
 tenIn c = c .packets ∷ c .first ∷ c .second ∷ c .third ∷ c .fourth ∷ c .fifth ∷ c .sixth ∷ c .seventh ∷ c .eighth ∷ c .ninth ∷ []
 

@@ -30,7 +30,7 @@ pub(crate) fn put_refusal(out: &mut [u8], at: usize, refusal: Refusal) -> usize
     ascii_lines::put_named(out, at, b" refused", &ns)
 }
 
-// What the line at a position says after it, of what the walk answers there.
+// The rest of a line after its position: what the walk found there.
 fn put_answer(out: &mut [u8], at: usize, words: &[u32], pos: usize, answer: Walked) -> usize
     requires { ⌜ answer ≡ walkOf (now words) pos ⌝ }
     ensures { λ r. ⌜ Wrote at (now (out .entry)) (answerShown answer (now (words .entry)) pos) r (now (out .exit)) ⌝ }
@@ -75,7 +75,7 @@ fn next_of(answer: Walked, pos: usize) -> usize
     }
 }
 
-// All lines but the last: the walk is asked once at each position that it comes to.
+// All lines but the last. The walk is asked once at each position.
 pub(crate) fn put_lines(out: &mut [u8], at: usize, words: &[u32]) -> usize
     ensures { λ r. ⌜ Wrote at (now (out .entry)) (linesOf (now (words .entry))) r (now (out .exit)) ⌝ }
 {

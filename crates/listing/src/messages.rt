@@ -13,7 +13,7 @@ use crate::shown::put_shown;
 use numbers::of_record::numbers_of;
 use records::message::Message;
 
-// A name, and so many of a message's numbers: its packets, then its fields in the table's order.
+// A kind's name and the first `count` numbers: packets, then fields in the table's order.
 fn put_fields(out: &mut [u8], at: usize, name: &[u8], message: Message, count: usize) -> usize
     requires { ⌜ count ≤ 10 ⌝ }
     ensures { λ r. ⌜ Wrote at (now (out .entry)) (now (name .entry) ++ numbers (take count (tenOf message))) r (now (out .exit)) ⌝ }
@@ -51,7 +51,7 @@ fn put_texts(
     put_shown(out, p, words, offset)
 }
 
-// The words are the message's own.
+// `words` holds this message and nothing else.
 pub(crate) fn put_message(out: &mut [u8], at: usize, message: Message, words: &[u32]) -> usize
     requires { ⌜ length (now words) / 4 ≡ packetsIn message ⌝ }
     ensures { λ r. ⌜ Wrote at (now (out .entry)) (messageShown message (now (words .entry))) r (now (out .exit)) ⌝ }

@@ -1,4 +1,4 @@
-// One message alone: read, and put as a line of the listing says it, with no position before it.
+// Reads one message and lists it as the listing does, without a position.
 ghost use Rattle.standard.specs.Reading.{readOf};
 ghost use Rattle.ascii_lines.specs.Page.{Wrote};
 ghost use Rattle.listing.specs.Lines.{readShown};

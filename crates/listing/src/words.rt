@@ -32,7 +32,7 @@ fn least(a: usize, b: usize) -> usize
     b
 }
 
-// The words into the lent ones, as far as both go, and how many they are.
+// Reads words into the lent slice until either ends; returns how many.
 pub fn read_words(bytes: &[u8], words: &mut [u32]) -> usize
     ensures { λ r. ⌜ r ≡ min (length (now (bytes .entry)) / 4) (length (now (words .entry))) ⌝ }
     ensures { λ r. ⌜ now (words .exit) ≡ upTo r (wordAt (now (bytes .entry))) (now (words .entry)) ⌝ }

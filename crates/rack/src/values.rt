@@ -41,7 +41,7 @@ fn number(x: u64) -> u32 {
     }
 }
 
-// The values with number i anew.
+// The values with a new number i.
 pub(crate) fn with_number(values: Values, i: usize, x: u64) -> Values {
     let mut v = values;
     if i < 9 {

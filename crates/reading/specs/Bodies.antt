@@ -1,4 +1,4 @@
--- Parts of reading that the code makes functions of: the fields of several packets, and the rules.
+-- Parts of reading that are functions in the code: the fields of several packets, and the rules.
 use Prim.Native.Nat.{ℕ}
 use mathlib.Core.Bool.{Bool, true, false}
 use mathlib.Core.List.{List}

@@ -1,4 +1,4 @@
--- The heads of a message, as one pass over its packets finds them: a quick way to the answer that the rules give.
+-- The heads of a message, checked in one pass: a fast path to the answer that the rules give.
 use Prim.Native.Nat.{ℕ, zero, suc, _+_, _-_, _*_, _/_, _^_}
 use mathlib.Core.Bool.{Bool, false}
 use mathlib.Core.List.{List}
@@ -20,19 +20,19 @@ use Rattle.reading.specs.Bodies.{repeated}
 unfoldable pub textBits : ℕ → ℕ
 textBits offset = 16 - offset * 8
 
--- what a first word has above its text, with its format as 0
+-- the bits of a first word above its text, with the format set to 0
 unfoldable pub headBits : ℕ → ℕ → ℕ
 headBits w offset = putField w 26 2 0 / 2 ^ textBits offset
 
--- packet p is there, and its head is like the first but for its format
+-- packet p is there, with a head like the first except for its format
 unfoldable pub likeFirst : List ℕ → ℕ → ℕ → Bool
 likeFirst ws offset p = pick (leb (packetsOf ws) p) false (eqb (headBits (headAt ws p) offset) (headBits (headAt ws 0) offset))
 
--- the packets of a message whose packet p has a format, where it is the last one's
+-- the number of packets if packet p, with this format, is the last one; else 0
 unfoldable pub endsAt : ℕ → ℕ → ℕ
 endsAt format p = pick (eqb format (dueFormat (p + 1) p)) (p + 1) 0
 
--- from packet p on, of which at most `left` may come: one with the format of a packet before another goes on
+-- from packet p on, at most `left` packets: goes on while the format says that another packet follows
 unfoldable pub headedFrom : ℕ → List ℕ → ℕ → ℕ → ℕ
 headedFrom zero ws offset p = 0
 headedFrom (suc left) ws offset p =
@@ -40,7 +40,7 @@ headedFrom (suc left) ws offset p =
     (pick (eqb (formatOf (headAt ws p)) (dueFormat (p + 2) p)) (headedFrom left ws offset (p + 1)) (endsAt (formatOf (headAt ws p)) p))
     0
 
--- the packets of the message at the start of the words, as its heads say; 0 where they are not right
+-- the number of packets of the message at the start of the words, or 0 if a head is wrong
 unfoldable pub headedPackets : List ℕ → ℕ → ℕ
 headedPackets ws offset = pick (differ (typeOf (headAt ws 0)) streamType) 0 (headedFrom 64 ws offset 0)
 
@@ -48,11 +48,11 @@ headedPackets ws offset = pick (differ (typeOf (headAt ws 0)) streamType) 0 (hea
 abbrev pub goodText : List ℕ → ℕ → ℕ → Bool
 goodText ws offset n = isGood (firstBad (textOf (take (n * 4) ws) (14 - offset) n))
 
--- the packets of the message at the start of the words, where its text is UTF-8 too; else 0
+-- the same, or 0 if its text is not UTF-8
 unfoldable pub seenText : List ℕ → ℕ → ℕ
 seenText ws offset = pick (goodText ws offset (headedPackets ws offset)) (headedPackets ws offset) 0
 
--- the same of a kind: none but the three with text has any
+-- the same for a kind; 0 for a kind without text
 abbrev pub textPackets : Kind → List ℕ → ℕ
 textPackets K.EndpointDiscovery ws = 0
 textPackets K.EndpointInfo ws = 0
@@ -62,6 +62,6 @@ textPackets K.ProductInstanceId ws = seenText ws 0
 textPackets K.FunctionBlockInfo ws = 0
 textPackets K.FunctionBlockName ws = seenText ws 1
 
--- the heads of a message of a kind and n packets are right: text starts an octet later where each packet has a field
+-- the heads of a message of this kind and n packets are right; text starts an octet later if each packet has a field
 unfoldable pub headsRight : Kind → List ℕ → ℕ → Bool
 headsRight k ws n = pick (ltb (mostOf k) n) false (eqb (headedPackets ws (pick (repeated k) 1 0)) n)

@@ -1,4 +1,4 @@
--- The rules as the code names them: each is one of the definition's.
+-- The rules by the names that the code has for them; each is a rule of the definition.
 use Prim.Native.Nat.{ℕ}
 use mathlib.Core.Bool.{Bool, true}
 use mathlib.Core.List.{List}

@@ -47,7 +47,7 @@ numberFrom v n = getD (v (Field.number n)) 0 0
 abbrev nthOf : (Field → List ℕ) → Field → ℕ → ℕ
 nthOf v f i = getD (v f) i 0
 
--- the record of a kind and so many packets with these values
+-- the record of a kind with n packets and these values
 unfoldable pub recordOf : Kind → ℕ → (Field → List ℕ) → Message
 recordOf K.EndpointDiscovery n v =
     M.EndpointDiscovery
@@ -165,7 +165,7 @@ fieldsIn (M.FunctionBlockInfo e) =
     ∷ []
 fieldsIn (M.FunctionBlockName b n) = number Number.function-block b ∷ []
 
--- a field's value in a list of fields, and its start where the list lacks it
+-- a field's value in a list of fields; its starting value if the list lacks it
 unfoldable pub lookup : List Valued → Field → List ℕ
 lookup [] f = start f
 lookup (x ∷ xs) f = pick (same (x .field) f) (x .value) (lookup xs f)

@@ -21,7 +21,7 @@ use Rattle.table.specs.declared.names.NumberName.the-variants as N
 use Rattle.kinds.specs.Layout.{Part, layout, none, slotsOf, parts}
 use Rattle.records.specs.Records.{kindIn, packetsIn, recordOf, valuesOf}
 
--- values of which one field's is changed
+-- the values with one field changed
 abbrev pub with : Field → List ℕ → (Field → List ℕ) → Field → List ℕ
 with f x v g = pick (same g f) x (v g)
 
@@ -68,7 +68,7 @@ numberIn N.NumberOfGroupsSpanned x m = Setting.number Number.number-of-groups-sp
 numberIn N.MidiCiVersion x m = Setting.number Number.midi-ci-version x
 numberIn N.MaxNumberOfMidiCiStreams x m = Setting.number Number.max-number-of-midi-ci-streams x
 
--- ---- what the settings' own steps say
+-- ---- steps of the settings
 -- each number is one of seven bits
 unfoldable pub septets : List ℕ → Bool
 septets [] = true

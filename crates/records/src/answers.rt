@@ -54,7 +54,7 @@ pub struct Edited {
     pub answer: Answer,
 }
 
-// A setting that is made.
+// An accepted setting.
 pub(crate) fn done(message: Message) -> Edited
     ensures { λ r. ⌜ r ≡ edited message Answer.Done ⌝ }
 {
@@ -64,7 +64,7 @@ pub(crate) fn done(message: Message) -> Edited
     }
 }
 
-// A setting that is refused hands the record back as it came.
+// A refused setting hands the record back unchanged.
 pub(crate) fn refused(message: Message, refusal: Refusal) -> Edited
     ensures { λ r. ⌜ r ≡ edited message (Answer.Refused refusal) ⌝ }
 {
@@ -86,7 +86,7 @@ pub(crate) fn too_large(message: Message) -> Edited
     refused(message, Refusal::NumberTooLarge)
 }
 
-// A setting after another: the record of the second, and the first refusal.
+// Two settings in a row: the record of the second, and the first refusal.
 pub(crate) fn then(first: Edited, next: Edited) -> Edited
     ensures { λ r. ⌜ r ≡ followed first next ⌝ }
 {

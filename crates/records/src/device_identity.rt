@@ -26,7 +26,7 @@ pub struct DeviceIdentity {
     pub software_version: SoftwareVersion,
 }
 
-// One of these is no number of seven bits. Three numbers come with a 0.
+// Whether a number is above 127. A caller with three numbers passes 0 as the fourth.
 fn any_above_127(a: u32, b: u32, c: u32, d: u32) -> bool
     ensures { λ r. ⌜ r ≡ not (septets (a ∷ b ∷ c ∷ d ∷ [])) ⌝ }
 {
@@ -109,7 +109,7 @@ impl Message {
     }
 }
 
-// The same on what a setting handed back, so that a chain goes on.
+// The same settings on the result of a setting, for chains.
 impl Edited {
     pub fn set_device_manufacturer(self, first: u32, second: u32, third: u32) -> Edited
         ensures { λ r. ⌜ r ≡ setEdited (Setting.device-manufacturer first second third) self ⌝ }

@@ -77,7 +77,7 @@ impl Message {
     }
 }
 
-// The same on what a setting handed back, so that a chain goes on.
+// The same settings on the result of a setting, for chains.
 impl Edited {
     pub fn set_request_endpoint_info(self, on: bool) -> Edited
         ensures { λ r. ⌜ r ≡ setEdited (Setting.flag Flag.request-endpoint-info on) self ⌝ }

@@ -95,7 +95,7 @@ impl Message {
     }
 }
 
-// The same on what a setting handed back, so that a chain goes on.
+// The same settings on the result of a setting, for chains.
 impl Edited {
     pub fn set_static_function_blocks(self, on: bool) -> Edited
         ensures { λ r. ⌜ r ≡ setEdited (Setting.flag Flag.static-function-blocks on) self ⌝ }

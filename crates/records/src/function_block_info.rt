@@ -28,7 +28,7 @@ pub struct FunctionBlockInfo {
     pub max_number_of_midi_ci_streams: u8,
 }
 
-// The block with these choices: a field that is an enum is not stored to, so the block is made anew.
+// The block with these choices. It is built anew, since the prover does not cover a store to an enum field.
 fn chosen(
     block: FunctionBlockInfo,
     hint: UiHint,
@@ -170,7 +170,7 @@ impl Message {
     }
 }
 
-// The same on what a setting handed back, so that a chain goes on.
+// The same settings on the result of a setting, for chains.
 impl Edited {
     pub fn set_active(self, on: bool) -> Edited
         ensures { λ r. ⌜ r ≡ setEdited (Setting.flag Flag.active on) self ⌝ }

@@ -1,4 +1,4 @@
-// The record of a message: it says its kind. Text is not in it: its bytes come from the words.
+// The record of a message. It says the kind; text is not in it, but is read from the words.
 ghost use mathlib.Core.Path.{_≡_};
 ghost use Rattle.counts.specs.Counts.{packet};
 ghost use Rattle.records.specs.Records.{kindIn, packetsIn};

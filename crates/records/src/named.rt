@@ -1,4 +1,4 @@
-// A flag, a number or a pair by its name, set on a record, and on what a setting handed back.
+// Settings of a flag, a number or a pair by its name, on a record and on the result of a setting.
 use crate::answers::Edited;
 use crate::answers::then;
 use crate::message::Message;

@@ -23,7 +23,7 @@ impl Message {
     }
 }
 
-// The same on what a setting handed back, so that a chain goes on.
+// The same settings on the result of a setting, for chains.
 impl Edited {
     pub fn set_name(self, text: &[u8]) -> Edited
         ensures { λ r. ⌜ r ≡ setEdited (Setting.text (nameOf (kindIn (self .message))) (now (text .entry))) self ⌝ }

@@ -25,7 +25,7 @@ targetOf status (W.Other t size next) = T.Refused (WrongType (packet 0))
 targetOf status (W.Refused r next) = T.Refused r
 targetOf status (W.Message m next) = ownIn status m
 
--- what a setting leaves: nothing changed where there is no target, else by the target's packets
+-- what a setting leaves: the words unchanged if it is refused, else what `act` gives for the packets found
 abbrev pub settled : Target → (ℕ → Outcome) → List ℕ → Outcome
 settled (T.Packets n) act ws = act (n .0)
 settled (T.Refused r) act ws = unchanged r ws

@@ -1,4 +1,4 @@
-// Settings on the message at the start of any slice of words, a file a kind.
+// Settings on the message at the start of any slice of words, one file per kind.
 pub mod device_identity;
 pub mod endpoint_discovery;
 pub mod endpoint_info;

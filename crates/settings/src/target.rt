@@ -12,12 +12,12 @@ use records::message::packets_in;
 use table::rows::row_of;
 
 pub enum Target {
-    // So many packets of the setting's kind.
+    // The packets of the message, which is of the setting's kind.
     Packets(PacketNumber),
     Refused(Refusal),
 }
 
-// A record as the target of a setting of the kind with this status.
+// What a setting of the kind with this status finds in a message.
 fn own_message(message: Message, status: u32) -> Target
     ensures { λ r. ⌜ r ≡ ownIn status message ⌝ }
 {

@@ -34,7 +34,7 @@ pub record SingleHead (k : Kind) (head : ℕ) : Type 0 where
   pub upper : upperOf head ≡ 0xF000 + layout k .status
   pub text : 0 < capacityOf k
 
--- the first packet has the upper half of a head, and all of its text is plain
+-- the first packet has the upper half of a head, and all of its text is ASCII
 unfoldable pub singleAscii : List ℕ → ℕ → Bool
 singleAscii ws head =
     pick (ltb (length ws) 4) false (pick (differ (upperOf (getD ws 0 0)) (upperOf head)) false (asciiPacket ws 0 0))
@@ -48,12 +48,12 @@ roomOf n room =
 unfoldable pub planOf : List ℕ → ℕ → ℕ → Plan
 planOf text cap room = pick (isBad (firstBad text)) (P.Refused NotUtf8) (roomOf (needed cap (length text)) room)
 
--- what a plan leaves: nothing changed where it is refused, else by the packets needed
+-- what a plan leaves: the words unchanged if it is refused, else what `act` gives for the packets needed
 abbrev pub carried : Plan → (ℕ → List ℕ) → List ℕ → Outcome
 carried (P.Needs n) act ws = outcome A.Done (act (n .0))
 carried (P.Refused r) act ws = unchanged r ws
 
--- text in the packets of the kind with this status, from octet 2 + offset of each on, with one head but for the format
+-- text in the packets of the kind with this status, from octet 2 + offset of each on, with the same head except for the format
 unfoldable pub textOn : ℕ → ℕ → ℕ → List ℕ → List ℕ → Outcome
 textOn status offset head text ws =
     settled (targetOf status (walkOf ws 0)) (λ m. carried (planOf text (14 - offset) (packetsOf ws)) (λ n. fillText text offset head n ws) ws) ws

@@ -1,4 +1,4 @@
-// Text set in packets, over any offset: why it is refused, and the act.
+// Sets text in packets, for any offset: first why it may be refused, then the writing.
 ghost use mathlib.Core.Path.{_≡_};
 ghost use Prim.Native.Nat.{_<_};
 ghost use Rattle.kinds.specs.Layout.{layout};
@@ -16,12 +16,12 @@ use text_check::check_utf8;
 use utf8::Utf8;
 
 pub enum Plan {
-    // The text goes into so many packets.
+    // How many packets the text takes.
     Needs(PacketNumber),
     Refused(Refusal),
 }
 
-// Refusals 3 and 14, or the packets needed for so many bytes.
+// Refusals 3 and 14, or the packets needed for this many bytes.
 pub fn find_room(bytes: usize, capacity: usize, room: PacketNumber) -> Plan
     ensures { λ r. ⌜ r ≡ roomOf (needed capacity bytes) (room .0) ⌝ }
 {

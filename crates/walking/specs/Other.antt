@@ -1,4 +1,4 @@
--- The size of another type's message at a position, as a plain number: what a caller asks who only steps over it.
+-- The size of another type's message at a position, for a caller that only steps over it.
 use Prim.Native.Nat.{ℕ}
 use mathlib.Core.List.{List}
 use Rattle.records.specs.declared.answers.Walked.{Walked}

@@ -1,4 +1,4 @@
--- What it is that a message stands at a position of a stream, said without the walk.
+-- A message at a position of a stream, defined without the walk.
 use Prim.Native.Nat.{ℕ, _+_, _*_, _≤_}
 use mathlib.Core.Path.{_≡_}
 use mathlib.Core.List.{List}

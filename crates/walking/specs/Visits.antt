@@ -1,4 +1,4 @@
--- THE WHOLE WALK of a stream, from position 0 to the end, and what it is that it passes each word once.
+-- THE WHOLE WALK of a stream, from position 0 to the end, and what it means that each word is passed once.
 use Prim.Native.Nat.{ℕ, zero, suc, _<_}
 use mathlib.Core.Path.{_≡_}
 use mathlib.Core.Bool.{Bool}

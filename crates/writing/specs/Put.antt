@@ -1,4 +1,4 @@
--- What writing leaves of the buffer, whatever the record's numbers are: a number that is too large is not put.
+-- The buffer after a record is written; a number that is too large is left out.
 use Prim.Native.Nat.{ℕ}
 use mathlib.Core.List.{List}
 use Rattle.text.specs.Written.{blank}
