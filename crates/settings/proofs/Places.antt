@@ -1,6 +1,6 @@
 -- The slot that the code gives for a name is the one of THE TABLE. Closed by computing the table at each name.
 use Prim.Native.Nat.{ℕ, _/_, _%_}
-use mathlib.Core.Path.{_≡_, refl}
+use mathlib.Core.Path.{_≡_, refl, _∙_}
 use mathlib.Core.Bool.{Bool}
 use mathlib.Core.List.{List, [], _∷_}
 use Rattle.slots.specs.Slots.{fits}
@@ -17,8 +17,9 @@ use Rattle.table.specs.Named.{flagNamed, numberNamed, pairNamed, flagAt, number
 use Rattle.buffer.specs.Acts.{putIns}
 use Rattle.numbers.specs.BySlot.{fitFrom, putFrom}
 use Rattle.standard.specs.Words.{setOn}
-use Rattle.settings.specs.Fixed.{slotOn, slotsOn}
-use Rattle.settings.proofs.Slots.{facts, set-slot, set-slots}
+use Rattle.settings.specs.declared.fixed.Home.{Home}
+use Rattle.settings.specs.Fixed.{placeOn, slotOn, HomeIs, slotsOn}
+use Rattle.settings.proofs.Slots.{facts, set-slot, set-slots, home-told}
 
 -- the septets of a pair, the low one first
 abbrev pub septetsOf : ℕ → List ℕ
@@ -56,12 +57,12 @@ unfolding facts fits putIns fitFrom putFrom
 pair-slots P.DeviceFamily x ws = set-slots K.DeviceIdentity _ _ refl _ _ _ refl refl
 pair-slots P.DeviceFamilyModelNumber x ws = set-slots K.DeviceIdentity _ _ refl _ _ _ refl refl
 
--- ---- and so at the slot that the code was given
-pub flag-put : (f : FlagName) (b : Bool) (ws : List ℕ) {a : FieldAt} → FieldIs (flagAt f) a → setOn (Setting.flag (flagNamed f) b) ws ≡ slotOn (a .0) (a .1) (bit b) ws
-flag-put f b ws s = rw (s .kind, s .slot) (flag-slot f b ws)
+-- ---- and so at the home that the code was given
+pub flag-put : (f : FlagName) (b : Bool) (ws : List ℕ) {h : Home} → HomeIs (flagAt f .0) (flagAt f .1) h → setOn (Setting.flag (flagNamed f) b) ws ≡ placeOn (h .0) (h .1) (h .2) (h .3) (bit b) ws
+flag-put f b ws h = flag-slot f b ws ∙ home-told (bit b) ws h
 
-pub number-put : (n : NumberName) (x : ℕ) (ws : List ℕ) {a : FieldAt} → FieldIs (numberAt n) a → setOn (Setting.number (numberNamed n) x) ws ≡ slotOn (a .0) (a .1) x ws
-number-put n x ws s = rw (s .kind, s .slot) (number-slot n x ws)
+pub number-put : (n : NumberName) (x : ℕ) (ws : List ℕ) {h : Home} → HomeIs (numberAt n .0) (numberAt n .1) h → setOn (Setting.number (numberNamed n) x) ws ≡ placeOn (h .0) (h .1) (h .2) (h .3) x ws
+number-put n x ws h = number-slot n x ws ∙ home-told x ws h
 
 pub pair-put : (p : PairName) (x : ℕ) (ws : List ℕ) {a : FieldAt} → FieldIs (pairAt p) a → setOn (Setting.pair (pairNamed p) x) ws ≡ slotsOn (a .0) (a .1) (septetsOf x) ws
 pair-put p x ws s = rw (s .kind, s .slot) (pair-slots p x ws)

@@ -1,5 +1,5 @@
-// The flags, numbers and pairs of the fixed kinds by name, and the slot of each.
-ghost use Rattle.table.specs.Named.{FieldIs, flagAt, numberAt, pairAt};
+// The flags, numbers and pairs of the fixed kinds by name; settings/src/named.rt has the slot of each flag and number.
+ghost use Rattle.table.specs.Named.{FieldIs, pairAt};
 use kinds::kind::Kind;
 
 pub enum FlagName {
@@ -48,41 +48,6 @@ pub const SOFTWARE_VERSION: u8 = 7;
 
 // The kind that has a field, and the field's first slot.
 pub struct FieldAt(pub Kind, pub u8);
-
-pub fn flag_at(flag: FlagName) -> FieldAt
-    ensures { λ r. ⌜ FieldIs (flagAt flag) r ⌝ }
-{
-    match flag {
-        FlagName::RequestEndpointInfo => FieldAt(Kind::EndpointDiscovery, 2),
-        FlagName::RequestDeviceIdentity => FieldAt(Kind::EndpointDiscovery, 3),
-        FlagName::RequestEndpointName => FieldAt(Kind::EndpointDiscovery, 4),
-        FlagName::RequestProductInstanceId => FieldAt(Kind::EndpointDiscovery, 5),
-        FlagName::RequestStreamConfiguration => FieldAt(Kind::EndpointDiscovery, 6),
-        FlagName::StaticFunctionBlocks => FieldAt(Kind::EndpointInfo, 2),
-        FlagName::SupportsMidi2Protocol => FieldAt(Kind::EndpointInfo, 3),
-        FlagName::SupportsMidi1Protocol => FieldAt(Kind::EndpointInfo, 4),
-        FlagName::SupportsReceivingJrTimestamps => FieldAt(Kind::EndpointInfo, 5),
-        FlagName::SupportsSendingJrTimestamps => FieldAt(Kind::EndpointInfo, 6),
-        FlagName::Active => FieldAt(Kind::FunctionBlockInfo, 0),
-    }
-}
-
-pub fn number_at(number: NumberName) -> FieldAt
-    ensures { λ r. ⌜ FieldIs (numberAt number) r ⌝ }
-{
-    match number {
-        NumberName::DiscoveryVersionMajor => FieldAt(Kind::EndpointDiscovery, 0),
-        NumberName::DiscoveryVersionMinor => FieldAt(Kind::EndpointDiscovery, 1),
-        NumberName::InfoVersionMajor => FieldAt(Kind::EndpointInfo, 0),
-        NumberName::InfoVersionMinor => FieldAt(Kind::EndpointInfo, 1),
-        NumberName::NumberOfFunctionBlocks => FieldAt(Kind::EndpointInfo, 7),
-        NumberName::FunctionBlockNumber => FieldAt(Kind::FunctionBlockInfo, 1),
-        NumberName::FirstGroup => FieldAt(Kind::FunctionBlockInfo, 5),
-        NumberName::NumberOfGroupsSpanned => FieldAt(Kind::FunctionBlockInfo, 6),
-        NumberName::MidiCiVersion => FieldAt(Kind::FunctionBlockInfo, 7),
-        NumberName::MaxNumberOfMidiCiStreams => FieldAt(Kind::FunctionBlockInfo, 8),
-    }
-}
 
 pub fn pair_at(pair: PairName) -> FieldAt
     ensures { λ r. ⌜ FieldIs (pairAt pair) r ⌝ }

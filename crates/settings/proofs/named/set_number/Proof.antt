@@ -1,7 +1,5 @@
 -- `named::set_number` meets its contract, by the laws of `Places`.
-use mathlib.Core.Path.{_∙_}
 use Rattle.standard.proofs.Outcome.{said-as}
-use Rattle.settings.proofs.Slots.{home-told}
 use Rattle.settings.proofs.Places.{number-put}
 use borrow.Author.Needs.{needs}
 use Rattle.settings.proofs.named.set_number.Statement.{statement}
@@ -11,5 +9,5 @@ pub set-number-spec : {M : Type 1} → statement M
 set-number-spec =
     tie.close
     (tie.spec
-    (λ c κs. search needs) (λ c κs. search needs) (λ c κs. search needs) (λ c. search needs)
-    (λ c. said-as (number-put (c .before .before .before .before .before .before .before .args .number) (c .before .before .before .before .before .before .before .args .x) _ (c .before .before .before .before .before .number-at .ensures) ∙ home-told _ _ (c .before .before .before .before .home-of .ensures)) (c .before .before .set-place .ensures)))
+    (λ c κs. search needs) (λ c κs. search needs) (λ c. search needs)
+    (λ c. said-as (number-put (c .before .before .before .before .before .before .args .number) (c .before .before .before .before .before .before .args .x) _ (c .before .before .before .before .number-home .ensures)) (c .before .before .set-place .ensures)))
