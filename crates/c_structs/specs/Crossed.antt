@@ -32,8 +32,11 @@ abbrev pub answered : Answer → Answered
 answered A.Done = record { refusal = 0; place = 0 }
 answered (A.Refused r) = record { refusal = refusalNumber r; place = refusalPlace r }
 
+abbrev pub withNumbers : Numbers → RecordAnswer
+withNumbers c = record { refusal = 0; place = 0; numbers = c }
+
 abbrev pub withRecord : Message → RecordAnswer
-withRecord m = record { refusal = 0; place = 0; numbers = asNumbers m }
+withRecord m = withNumbers (asNumbers m)
 
 abbrev pub withRefusal : Refusal → Numbers → RecordAnswer
 withRefusal r c = record { refusal = refusalNumber r; place = refusalPlace r; numbers = c }

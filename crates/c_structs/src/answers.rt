@@ -3,7 +3,7 @@ ghost use mathlib.Core.Path.{_≡_};
 ghost use Rattle.counts.specs.Counts.{word};
 ghost use Rattle.records.specs.declared.answers.Answer.{Answer};
 ghost use Rattle.records.specs.declared.answers.Walked.the-variants as W;
-ghost use Rattle.c_structs.specs.Crossed.{answered, withRefusal, readCrossed, foundCrossed, walkCrossed, packetCrossed, sizeCrossed, byteCrossed, stepCrossed, editedCrossed};
+ghost use Rattle.c_structs.specs.Crossed.{answered, withNumbers, withRefusal, readCrossed, foundCrossed, walkCrossed, packetCrossed, sizeCrossed, byteCrossed, stepCrossed, editedCrossed};
 use kinds::choices::format_code;
 use kinds::refusal::Refusal;
 use kinds::refusal::refusal_number;
@@ -99,6 +99,17 @@ pub fn refused_record(refusal: Refusal, numbers: Numbers) -> RecordAnswer
     RecordAnswer {
         refusal: refusal_number(refusal),
         place: refusal_place(refusal),
+        numbers,
+    }
+}
+
+// A record that a setting gives.
+pub fn of_numbers(numbers: Numbers) -> RecordAnswer
+    ensures { λ r. ⌜ r ≡ withNumbers numbers ⌝ }
+{
+    RecordAnswer {
+        refusal: 0,
+        place: 0,
         numbers,
     }
 }

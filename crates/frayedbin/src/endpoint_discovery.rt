@@ -4,15 +4,12 @@ ghost use Rattle.kinds.specs.Fields.{Flag, Number, Setting};
 ghost use Rattle.standard.specs.Words.{setOn};
 ghost use Rattle.c_structs.specs.Crossed.{answered};
 ghost use Rattle.frayedbin.specs.Calls.{setIn};
+use crate::named::flag_in;
 use crate::named::flag_on;
 use crate::named::number_on;
 use c_structs::answers::Answered;
 use c_structs::answers::RecordAnswer;
-use c_structs::answers::of_edited;
-use c_structs::answers::refused_record;
 use numbers::Numbers;
-use numbers::to_record::FromNumbers;
-use numbers::to_record::record_from;
 use table::names::FlagName;
 use table::names::NumberName;
 
@@ -102,10 +99,7 @@ pub extern "C" fn frayedbin_record_set_request_endpoint_info(
 ) -> RecordAnswer
     ensures { λ r. ⌜ r ≡ setIn (λ m. Setting.flag Flag.request-endpoint-info on) «record» ⌝ }
 {
-    match record_from(record) {
-        FromNumbers::Message(message) => of_edited(message.set_request_endpoint_info(on), record),
-        FromNumbers::Refused(refusal) => refused_record(refusal, record),
-    }
+    flag_in(record, FlagName::RequestEndpointInfo, on)
 }
 
 #[no_mangle]
@@ -115,10 +109,7 @@ pub extern "C" fn frayedbin_record_set_request_device_identity(
 ) -> RecordAnswer
     ensures { λ r. ⌜ r ≡ setIn (λ m. Setting.flag Flag.request-device-identity on) «record» ⌝ }
 {
-    match record_from(record) {
-        FromNumbers::Message(message) => of_edited(message.set_request_device_identity(on), record),
-        FromNumbers::Refused(refusal) => refused_record(refusal, record),
-    }
+    flag_in(record, FlagName::RequestDeviceIdentity, on)
 }
 
 #[no_mangle]
@@ -128,10 +119,7 @@ pub extern "C" fn frayedbin_record_set_request_endpoint_name(
 ) -> RecordAnswer
     ensures { λ r. ⌜ r ≡ setIn (λ m. Setting.flag Flag.request-endpoint-name on) «record» ⌝ }
 {
-    match record_from(record) {
-        FromNumbers::Message(message) => of_edited(message.set_request_endpoint_name(on), record),
-        FromNumbers::Refused(refusal) => refused_record(refusal, record),
-    }
+    flag_in(record, FlagName::RequestEndpointName, on)
 }
 
 #[no_mangle]
@@ -141,13 +129,7 @@ pub extern "C" fn frayedbin_record_set_request_product_instance_id(
 ) -> RecordAnswer
     ensures { λ r. ⌜ r ≡ setIn (λ m. Setting.flag Flag.request-product-instance-id on) «record» ⌝ }
 {
-    match record_from(record) {
-        FromNumbers::Message(message) => of_edited(
-            message.set_request_product_instance_id(on),
-            record,
-        ),
-        FromNumbers::Refused(refusal) => refused_record(refusal, record),
-    }
+    flag_in(record, FlagName::RequestProductInstanceId, on)
 }
 
 #[no_mangle]
@@ -157,11 +139,5 @@ pub extern "C" fn frayedbin_record_set_request_stream_configuration(
 ) -> RecordAnswer
     ensures { λ r. ⌜ r ≡ setIn (λ m. Setting.flag Flag.request-stream-configuration on) «record» ⌝ }
 {
-    match record_from(record) {
-        FromNumbers::Message(message) => of_edited(
-            message.set_request_stream_configuration(on),
-            record,
-        ),
-        FromNumbers::Refused(refusal) => refused_record(refusal, record),
-    }
+    flag_in(record, FlagName::RequestStreamConfiguration, on)
 }

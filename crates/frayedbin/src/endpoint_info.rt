@@ -4,15 +4,13 @@ ghost use Rattle.kinds.specs.Fields.{Flag, Number, Setting};
 ghost use Rattle.standard.specs.Words.{setOn};
 ghost use Rattle.c_structs.specs.Crossed.{answered};
 ghost use Rattle.frayedbin.specs.Calls.{setIn};
+use crate::named::flag_in;
 use crate::named::flag_on;
+use crate::named::number_in;
 use crate::named::number_on;
 use c_structs::answers::Answered;
 use c_structs::answers::RecordAnswer;
-use c_structs::answers::of_edited;
-use c_structs::answers::refused_record;
 use numbers::Numbers;
-use numbers::to_record::FromNumbers;
-use numbers::to_record::record_from;
 use table::names::FlagName;
 use table::names::NumberName;
 
@@ -113,10 +111,7 @@ pub extern "C" fn frayedbin_record_set_static_function_blocks(
 ) -> RecordAnswer
     ensures { λ r. ⌜ r ≡ setIn (λ m. Setting.flag Flag.static-function-blocks on) «record» ⌝ }
 {
-    match record_from(record) {
-        FromNumbers::Message(message) => of_edited(message.set_static_function_blocks(on), record),
-        FromNumbers::Refused(refusal) => refused_record(refusal, record),
-    }
+    flag_in(record, FlagName::StaticFunctionBlocks, on)
 }
 
 #[no_mangle]
@@ -126,10 +121,7 @@ pub extern "C" fn frayedbin_record_set_supports_midi2_protocol(
 ) -> RecordAnswer
     ensures { λ r. ⌜ r ≡ setIn (λ m. Setting.flag Flag.supports-midi2-protocol on) «record» ⌝ }
 {
-    match record_from(record) {
-        FromNumbers::Message(message) => of_edited(message.set_supports_midi2_protocol(on), record),
-        FromNumbers::Refused(refusal) => refused_record(refusal, record),
-    }
+    flag_in(record, FlagName::SupportsMidi2Protocol, on)
 }
 
 #[no_mangle]
@@ -139,10 +131,7 @@ pub extern "C" fn frayedbin_record_set_supports_midi1_protocol(
 ) -> RecordAnswer
     ensures { λ r. ⌜ r ≡ setIn (λ m. Setting.flag Flag.supports-midi1-protocol on) «record» ⌝ }
 {
-    match record_from(record) {
-        FromNumbers::Message(message) => of_edited(message.set_supports_midi1_protocol(on), record),
-        FromNumbers::Refused(refusal) => refused_record(refusal, record),
-    }
+    flag_in(record, FlagName::SupportsMidi1Protocol, on)
 }
 
 #[no_mangle]
@@ -152,13 +141,7 @@ pub extern "C" fn frayedbin_record_set_supports_receiving_jr_timestamps(
 ) -> RecordAnswer
     ensures { λ r. ⌜ r ≡ setIn (λ m. Setting.flag Flag.supports-receiving-jr-timestamps on) «record» ⌝ }
 {
-    match record_from(record) {
-        FromNumbers::Message(message) => of_edited(
-            message.set_supports_receiving_jr_timestamps(on),
-            record,
-        ),
-        FromNumbers::Refused(refusal) => refused_record(refusal, record),
-    }
+    flag_in(record, FlagName::SupportsReceivingJrTimestamps, on)
 }
 
 #[no_mangle]
@@ -168,13 +151,7 @@ pub extern "C" fn frayedbin_record_set_supports_sending_jr_timestamps(
 ) -> RecordAnswer
     ensures { λ r. ⌜ r ≡ setIn (λ m. Setting.flag Flag.supports-sending-jr-timestamps on) «record» ⌝ }
 {
-    match record_from(record) {
-        FromNumbers::Message(message) => of_edited(
-            message.set_supports_sending_jr_timestamps(on),
-            record,
-        ),
-        FromNumbers::Refused(refusal) => refused_record(refusal, record),
-    }
+    flag_in(record, FlagName::SupportsSendingJrTimestamps, on)
 }
 
 #[no_mangle]
@@ -184,11 +161,5 @@ pub extern "C" fn frayedbin_record_set_number_of_function_blocks(
 ) -> RecordAnswer
     ensures { λ r. ⌜ r ≡ setIn (λ m. Setting.number Number.number-of-function-blocks number) «record» ⌝ }
 {
-    match record_from(record) {
-        FromNumbers::Message(message) => of_edited(
-            message.set_number_of_function_blocks(number),
-            record,
-        ),
-        FromNumbers::Refused(refusal) => refused_record(refusal, record),
-    }
+    number_in(record, NumberName::NumberOfFunctionBlocks, number)
 }

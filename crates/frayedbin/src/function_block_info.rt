@@ -4,7 +4,9 @@ ghost use Rattle.kinds.specs.Fields.{Flag, Number, Setting};
 ghost use Rattle.standard.specs.Words.{setOn};
 ghost use Rattle.c_structs.specs.Crossed.{answered};
 ghost use Rattle.frayedbin.specs.Calls.{hintOn, portOn, directionOn, setIn, hintIn, portIn, directionIn};
+use crate::named::flag_in;
 use crate::named::flag_on;
+use crate::named::number_in;
 use crate::named::number_on;
 use c_structs::answers::Answered;
 use c_structs::answers::RecordAnswer;
@@ -139,10 +141,7 @@ pub extern "C" fn frayedbin_function_block_info_set_max_number_of_midi_ci_stream
 pub extern "C" fn frayedbin_record_set_active(record: Numbers, on: bool) -> RecordAnswer
     ensures { λ r. ⌜ r ≡ setIn (λ m. Setting.flag Flag.active on) «record» ⌝ }
 {
-    match record_from(record) {
-        FromNumbers::Message(message) => of_edited(message.set_active(on), record),
-        FromNumbers::Refused(refusal) => refused_record(refusal, record),
-    }
+    flag_in(record, FlagName::Active, on)
 }
 
 #[no_mangle]
@@ -152,13 +151,7 @@ pub extern "C" fn frayedbin_record_set_function_block_number(
 ) -> RecordAnswer
     ensures { λ r. ⌜ r ≡ setIn (λ m. Setting.number Number.function-block-number number) «record» ⌝ }
 {
-    match record_from(record) {
-        FromNumbers::Message(message) => of_edited(
-            message.set_function_block_number(number),
-            record,
-        ),
-        FromNumbers::Refused(refusal) => refused_record(refusal, record),
-    }
+    number_in(record, NumberName::FunctionBlockNumber, number)
 }
 
 #[no_mangle]
@@ -204,10 +197,7 @@ pub extern "C" fn frayedbin_record_set_direction(record: Numbers, code: u32) -> 
 pub extern "C" fn frayedbin_record_set_first_group(record: Numbers, group: u32) -> RecordAnswer
     ensures { λ r. ⌜ r ≡ setIn (λ m. Setting.number Number.first-group group) «record» ⌝ }
 {
-    match record_from(record) {
-        FromNumbers::Message(message) => of_edited(message.set_first_group(group), record),
-        FromNumbers::Refused(refusal) => refused_record(refusal, record),
-    }
+    number_in(record, NumberName::FirstGroup, group)
 }
 
 #[no_mangle]
@@ -217,13 +207,7 @@ pub extern "C" fn frayedbin_record_set_number_of_groups_spanned(
 ) -> RecordAnswer
     ensures { λ r. ⌜ r ≡ setIn (λ m. Setting.number Number.number-of-groups-spanned number) «record» ⌝ }
 {
-    match record_from(record) {
-        FromNumbers::Message(message) => of_edited(
-            message.set_number_of_groups_spanned(number),
-            record,
-        ),
-        FromNumbers::Refused(refusal) => refused_record(refusal, record),
-    }
+    number_in(record, NumberName::NumberOfGroupsSpanned, number)
 }
 
 #[no_mangle]
@@ -233,10 +217,7 @@ pub extern "C" fn frayedbin_record_set_midi_ci_version(
 ) -> RecordAnswer
     ensures { λ r. ⌜ r ≡ setIn (λ m. Setting.number Number.midi-ci-version version) «record» ⌝ }
 {
-    match record_from(record) {
-        FromNumbers::Message(message) => of_edited(message.set_midi_ci_version(version), record),
-        FromNumbers::Refused(refusal) => refused_record(refusal, record),
-    }
+    number_in(record, NumberName::MidiCiVersion, version)
 }
 
 #[no_mangle]
@@ -246,11 +227,5 @@ pub extern "C" fn frayedbin_record_set_max_number_of_midi_ci_streams(
 ) -> RecordAnswer
     ensures { λ r. ⌜ r ≡ setIn (λ m. Setting.number Number.max-number-of-midi-ci-streams number) «record» ⌝ }
 {
-    match record_from(record) {
-        FromNumbers::Message(message) => of_edited(
-            message.set_max_number_of_midi_ci_streams(number),
-            record,
-        ),
-        FromNumbers::Refused(refusal) => refused_record(refusal, record),
-    }
+    number_in(record, NumberName::MaxNumberOfMidiCiStreams, number)
 }

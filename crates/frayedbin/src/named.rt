@@ -1,17 +1,33 @@
-// A flag, a number or a pair by its name, set on words.
+// A flag, a number or a pair by its name, set on words; a flag or a number on a record.
 ghost use mathlib.Core.Path.{_≡_};
 ghost use Rattle.kinds.specs.Fields.{Setting};
 ghost use Rattle.table.specs.Named.{flagNamed, numberNamed, pairNamed};
 ghost use Rattle.standard.specs.Words.{setOn};
 ghost use Rattle.c_structs.specs.Crossed.{answered};
+ghost use Rattle.frayedbin.specs.Calls.{setIn, oneIn};
+use buffer::fields::too_large;
 use c_structs::answers::Answered;
+use c_structs::answers::RecordAnswer;
 use c_structs::answers::of_answer;
+use c_structs::answers::of_numbers;
+use c_structs::answers::refused_record;
+use kinds::kind::Kind;
+use kinds::refusal::Refusal;
+use numbers::Numbers;
+use numbers::set_one::is_record_of;
+use numbers::set_one::with_number;
+use numbers::to_record::FromNumbers;
+use numbers::to_record::record_from;
 use settings::named::set_flag;
 use settings::named::set_number;
 use settings::named::set_pair;
 use table::names::FlagName;
 use table::names::NumberName;
 use table::names::PairName;
+use table::names::flag_at;
+use table::names::number_at;
+use table::places::place_of;
+use table::rows::row_of;
 
 pub(crate) fn flag_on(words: &mut [u32], flag: FlagName, on: bool) -> Answered
     ensures answer { λ r. ⌜ r ≡ answered (setOn (Setting.flag (flagNamed flag) on) (now (words .entry)) .answer) ⌝ }
@@ -32,4 +48,38 @@ pub(crate) fn pair_on(words: &mut [u32], pair: PairName, x: u32) -> Answered
     ensures buffer { λ r. ⌜ now (words .exit) ≡ setOn (Setting.pair (pairNamed pair) x) (now (words .entry)) .words ⌝ }
 {
     of_answer(set_pair(words, pair, x))
+}
+
+// One number of a record. Fast path: numbers that are a record of the kind; `record_from` says why others are refused.
+fn one_in(record: Numbers, kind: Kind, slot: u8, x: u32) -> RecordAnswer
+    ensures { λ r. ⌜ r ≡ oneIn kind slot x «record» ⌝ }
+{
+    if is_record_of(kind, record) {
+        let place = place_of(kind, slot as usize);
+        if too_large(place.2, x) {
+            return refused_record(Refusal::NumberTooLarge, record);
+        }
+        let row = row_of(kind);
+        return of_numbers(with_number(record, row.slots, slot as usize, x));
+    }
+    match record_from(record) {
+        FromNumbers::Message(_) => refused_record(Refusal::NoSuchField, record),
+        FromNumbers::Refused(refusal) => refused_record(refusal, record),
+    }
+}
+
+pub(crate) fn flag_in(record: Numbers, flag: FlagName, on: bool) -> RecordAnswer
+    ensures { λ r. ⌜ r ≡ setIn (λ m. Setting.flag (flagNamed flag) on) «record» ⌝ }
+{
+    let at = flag_at(flag);
+    let kind = at.0;
+    one_in(record, kind, at.1, on as u32)
+}
+
+pub(crate) fn number_in(record: Numbers, number: NumberName, x: u32) -> RecordAnswer
+    ensures { λ r. ⌜ r ≡ setIn (λ m. Setting.number (numberNamed number) x) «record» ⌝ }
+{
+    let at = number_at(number);
+    let kind = at.0;
+    one_in(record, kind, at.1, x)
 }

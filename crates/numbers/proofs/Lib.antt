@@ -3,3 +3,4 @@ pub mod Within
 pub mod Accepted
 pub mod Computed
 pub mod Back
+pub mod OneNumber

@@ -1,3 +1,4 @@
 pub mod Numbers
 pub mod FromNumbers
 pub mod BySlot
+pub mod SetOne

@@ -2,6 +2,7 @@
 pub mod by_slot;
 pub mod in_slots;
 pub mod of_record;
+pub mod set_one;
 pub mod to_record;
 
 // A record's status, its packets, and its fields in the table's order; 0 past the kind's last.

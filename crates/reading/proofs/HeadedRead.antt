@@ -1,35 +1,34 @@
 -- What the pass found is what the rules give: a message of its kind. Closed by the fields that like heads share, and text that is good.
-use Prim.Native.Nat.{ℕ, _+_, _-_, _*_, _%_, _≤_, _<_}
+use Prim.Native.Nat.{ℕ, _+_, _*_, _%_, _≤_, _<_}
 use mathlib.Core.Path.{_≡_, refl, sym, ap, _∙_}
-use mathlib.Core.Bool.{true, false}
+use mathlib.Core.Bool.{true, false, not}
 use mathlib.Core.List.{List}
 use native.Mathlib.Omega.{arith}
+use native.Mathlib.Decide.{decLt}
 use lib.ListN.{length, take}
 use lib.Seq.{take-all, getD-take, length-take-le}
 use lib.Dec.{ltb, eqb, lit≤}
 use borrow.Author.Tests.{le-ltb, ltb-false, eqb-true}
-use Rattle.laws.specs.Pick.{pick}
 use Rattle.laws.specs.Bits.{fieldOf, putField}
-use Rattle.laws.specs.Lists.{map}
 use Rattle.laws.proofs.Bits.{get-above, get-below, same-above}
 use Rattle.laws.proofs.Pick.{true-false, past, passed, split, eq-differ}
-use Rattle.slots.specs.Slots.{those}
+use Rattle.utf8.specs.Utf8.{firstBad}
+use Rattle.text_check.specs.FastCheck.{isGood}
 use Rattle.kinds.specs.declared.kind.Kind.{Kind}
-use Rattle.kinds.specs.declared.kind.Kind.the-variants as K
 use Rattle.kinds.specs.declared.kind.Known.{Known}
 use Rattle.kinds.specs.declared.kind.Known.the-variants.{Is}
-use Rattle.kinds.specs.Choices.{noPort, noDirection}
-use Rattle.kinds.specs.Fields.{Field, same, decided, joined, start}
-use Rattle.kinds.specs.Layout.{layout, capacityOf, mostOf, kindOf, held, valuesIn}
+use Rattle.kinds.specs.Layout.{layout, mostOf, hasText, kindOf}
 use Rattle.records.specs.declared.answers.Read.the-variants as R
 use Rattle.standard.specs.Heads.{typeOf, statusOf, streamType, headAt, packetsOf}
-use Rattle.standard.specs.Reading.{codeAt, messageAt, readBody, readKnown, readKind, readOf}
+use Rattle.standard.specs.Reading.{messageAt, textAt, readBody, readKnown, readKind, readOf}
 use Rattle.standard.proofs.Rules.{ruled-kept}
-use Rattle.reading.specs.Bodies.{repeated, fieldsRead, rulesRead}
+use Rattle.reading.specs.Rules.{breaksOf}
+use Rattle.reading.specs.Bodies.{offsetOf, fieldsRead, rulesRead}
 use Rattle.reading.specs.OnePass.{textBits, headBits, headedPackets, goodText, seenText, textPackets, headsRight}
-use Rattle.reading.proofs.Bodies.{good-body}
+use Rattle.reading.proofs.TextRows.{text-most, text-capacity, text-free}
+use Rattle.reading.proofs.Bodies.{bad-not-good, good-body}
 use Rattle.reading.proofs.Passes.{Headed, headed-seen, headed-room, headed-front}
-use Rattle.reading.proofs.Repeats.{block-alike, repeated-none}
+use Rattle.reading.proofs.Repeats.{late-rule, none-late}
 
 module _ (w v offset : ℕ) (e : headBits w offset ≡ headBits v offset) where
   bits-few : textBits offset ≤ 16
@@ -52,26 +51,19 @@ module _ (w v offset : ℕ) (e : headBits w offset ≡ headBits v offset) where
   same-status : statusOf w ≡ statusOf v
   same-status = low-same 16 10 (lit≤ tt) bits-few
 
--- of the first word of a block name one octet is text
-octet-left : textBits 1 ≤ 8
+-- of a first word at most one octet is text if each packet has a field
+octet-left : (offset : ℕ) → 0 < offset → textBits offset ≤ 8
 unfolding textBits
-octet-left = lit≤ tt
-
--- where the text of a kind's packets starts, after octet 2
-abbrev offsetOf : Kind → ℕ
-offsetOf k = pick (repeated k) 1 0
+octet-left offset h = omega arith
 
 -- ---- a whole message with heads that the pass saw
-module _ (ws : List ℕ) where
-  fields-kept : (k : Kind) → Headed ws (offsetOf k) (packetsOf ws) → packetsOf ws ≤ mostOf k → readBody k ws ≡ fieldsRead k ws
-  unfolding fieldsRead
-  fields-kept K.EndpointDiscovery s m = repeated-none K.EndpointDiscovery ws refl m
-  fields-kept K.EndpointInfo s m = repeated-none K.EndpointInfo ws refl m
-  fields-kept K.DeviceIdentity s m = repeated-none K.DeviceIdentity ws refl m
-  fields-kept K.EndpointName s m = repeated-none K.EndpointName ws refl m
-  fields-kept K.ProductInstanceId s m = repeated-none K.ProductInstanceId ws refl m
-  fields-kept K.FunctionBlockInfo s m = repeated-none K.FunctionBlockInfo ws refl m
-  fields-kept K.FunctionBlockName s m = ruled-kept _ _ _ _ (λ p h. block-alike ws p (low-same _ _ 1 (s .each p h .head) 8 8 (lit≤ tt) octet-left)) refl
+fields-kept : (k : Kind) (ws : List ℕ) → Headed ws (offsetOf k) (packetsOf ws) → packetsOf ws ≤ mostOf k → readBody k ws ≡ fieldsRead k ws
+unfolding fieldsRead breaksOf
+fields-kept k ws s m = go (decLt 0 (offsetOf k))
+  where
+    go : Dec (0 < offsetOf k) → readBody k ws ≡ fieldsRead k ws
+    go (yes h) = ruled-kept _ _ _ _ (λ p l. sym (late-rule k ws h p) ∙ eq-differ _ _ (low-same _ _ (offsetOf k) (s .each p l .head) 8 8 (lit≤ tt) (octet-left (offsetOf k) h))) refl
+    go (no h) = none-late k ws (omega arith) m
 
 module _ (k : Kind) (ws : List ℕ) (s : Headed ws (offsetOf k) (packetsOf ws)) (whole : length ws % 4 ≡ 0) (known : kindOf (statusOf (headAt ws 0)) ≡ Is k) (most : packetsOf ws ≤ mostOf k) where
   type-at : (p : ℕ) → p < packetsOf ws → typeOf (headAt ws p) ≡ streamType
@@ -83,7 +75,7 @@ module _ (k : Kind) (ws : List ℕ) (s : Headed ws (offsetOf k) (packetsOf ws)) 
       ruled-kept _ _ _ _ (λ p h. eq-differ _ _ (same-status _ _ (offsetOf k) (s .each p h .head)))
       (past _ (le-ltb (mostOf k) (packetsOf ws) most)
       (ruled-kept _ _ _ _ (λ p h. eq-differ _ _ (s .format p h))
-      (fields-kept ws k s most)))
+      (fields-kept k ws s most)))
 
   by-rules : readBody k ws ≡ readOf ws
   unfolding readOf
@@ -126,30 +118,13 @@ seen-good ws offset n e h = split (goodText ws offset (headedPackets ws offset))
     (λ t. let q : headedPackets ws offset ≡ n = rw t at e in (headed-seen ws offset n q h, ap (λ (x : ℕ). goodText ws offset x) (sym q) ∙ t))
     (λ t. let q : 0 ≡ n = rw t at e in absurd (omega arith))
 
--- a kind with text
-record Textual (k : Kind) (ws : List ℕ) (n : ℕ) : Type 0 where
-  seen : seenText ws (offsetOf k) ≡ n
-  cap : 14 - offsetOf k ≡ capacityOf k
-  most : mostOf k ≡ 64
-  port : (xs : List ℕ) → eqb (codeAt k xs Field.midi1-port) noPort ≡ false
-  direction : (xs : List ℕ) → eqb (codeAt k xs Field.direction) noDirection ≡ false
-
-textual : (k : Kind) (ws : List ℕ) (n : ℕ) → textPackets k ws ≡ n → 0 < n → Textual k ws n
-unfolding layout valuesIn those map held joined same decided start
-textual K.EndpointDiscovery ws n e h = absurd (omega arith)
-textual K.EndpointInfo ws n e h = absurd (omega arith)
-textual K.DeviceIdentity ws n e h = absurd (omega arith)
-textual K.EndpointName ws n e h = record { seen = e; cap = refl; most = refl; port = λ xs. refl; direction = λ xs. refl }
-textual K.ProductInstanceId ws n e h = record { seen = e; cap = refl; most = refl; port = λ xs. refl; direction = λ xs. refl }
-textual K.FunctionBlockInfo ws n e h = absurd (omega arith)
-textual K.FunctionBlockName ws n e h = record { seen = e; cap = refl; most = refl; port = λ xs. refl; direction = λ xs. refl }
-
 module _ (k : Kind) (ws : List ℕ) (n : ℕ) (e : textPackets k ws ≡ n) (some : 0 < n) where
-  is : Textual k ws n
-  is = textual k ws n e some
+  -- a kind with text
+  texted : (hasText (layout k .body) ≡ true) × (seenText ws (offsetOf k) ≡ n)
+  texted = split (hasText (layout k .body)) (λ t. (t, rw t at e)) (λ t. let q : 0 ≡ n = rw t at e in absurd (omega arith))
 
   good : Headed ws (offsetOf k) n × (goodText ws (offsetOf k) n ≡ true)
-  good = seen-good ws (offsetOf k) n (is .seen) some
+  good = seen-good ws (offsetOf k) n (texted .1) some
 
   pub text-room : n * 4 ≤ length ws
   text-room = headed-room ws (offsetOf k) n (good .0)
@@ -162,11 +137,13 @@ module _ (k : Kind) (ws : List ℕ) (n : ℕ) (e : textPackets k ws ≡ n) (some
   count = let l = length-take-le (n * 4) ws text-room in omega (arith, l)
 
   body : R.Message (messageAt k front) ≡ readBody k front
-  body = good-body k front (is .port front) (is .direction front) (offsetOf k) (is .cap) (rw count (good .1))
+  body =
+      let g : isGood (firstBad (textAt k front)) ≡ true = rw (count, ← text-capacity k (texted .0)) (good .1) in
+      good-body k front refl (text-free k (texted .0)) (bad-not-good (firstBad (textAt k front)) ∙ ap not g) refl
 
   -- A MESSAGE OF TEXT THAT THE PASS SAW IS READ FROM ITS OWN WORDS
   pub text-read : kindOf (statusOf (headAt ws 0)) ≡ Is k → R.Message (messageAt k front) ≡ readOf front
   text-read known =
       let l = length-take-le (n * 4) ws text-room in
       let m = good .0 .most in
-      body ∙ by-rules k front (rw count (headed-front ws (offsetOf k) n (good .0))) (omega (arith, l)) (rw (getD-take (n * 4) ws 0 0 (omega arith)) known) (rw (count, is .most) m)
+      body ∙ by-rules k front (rw count (headed-front ws (offsetOf k) n (good .0))) (omega (arith, l)) (rw (getD-take (n * 4) ws 0 0 (omega arith)) known) (rw (count, text-most (layout k .body) (texted .0)) m)

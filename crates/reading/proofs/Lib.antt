@@ -1,3 +1,4 @@
+pub mod TextRows
 pub mod Bodies
 pub mod Repeats
 pub mod Passes

@@ -18,7 +18,7 @@ use Rattle.text_check.specs.FastCheck.{isGood}
 use Rattle.kinds.specs.declared.kind.Kind.{Kind}
 use Rattle.kinds.specs.Layout.{mostOf}
 use Rattle.standard.specs.Heads.{typeOf, formatOf, streamType, headAt, packetsOf}
-use Rattle.reading.specs.Bodies.{repeated}
+use Rattle.reading.specs.Bodies.{offsetOf}
 use Rattle.reading.specs.OnePass.{headBits, likeFirst, endsAt, headedFrom, headedPackets, seenText, headsRight}
 
 -- ---- the turns of the loop
@@ -169,9 +169,9 @@ module _ (k : Kind) (ws : List ℕ) (n : ℕ) where
   unfolding headsRight
   too-many h = here _ (lt-ltb (mostOf k) n h) refl
 
-  pub not-many : (b : Bool) (m : ℕ) → n ≤ mostOf k → repeated k ≡ b → m ≡ headedPackets ws (pick b 1 0) → eqb m n ≡ headsRight k ws n
+  pub not-many : (m : ℕ) → n ≤ mostOf k → m ≡ headedPackets ws (offsetOf k) → eqb m n ≡ headsRight k ws n
   unfolding headsRight
-  not-many b m h r e = past _ (le-ltb (mostOf k) n h) (rw (r, e))
+  not-many m h e = past _ (le-ltb (mostOf k) n h) (rw e)
 
 -- ---- their text
 module _ (ws : List ℕ) (offset n : ℕ) (e : headedPackets ws offset ≡ n) where

@@ -11,10 +11,9 @@ use Rattle.text.specs.Octets.{dueFormat}
 use Rattle.text.specs.Bytes.{textOf}
 use Rattle.text_check.specs.FastCheck.{isGood}
 use Rattle.kinds.specs.declared.kind.Kind.{Kind}
-use Rattle.kinds.specs.declared.kind.Kind.the-variants as K
-use Rattle.kinds.specs.Layout.{mostOf}
+use Rattle.kinds.specs.Layout.{layout, mostOf, hasText}
 use Rattle.standard.specs.Heads.{typeOf, formatOf, streamType, headAt, packetsOf}
-use Rattle.reading.specs.Bodies.{repeated}
+use Rattle.reading.specs.Bodies.{offsetOf}
 
 -- the low bits of a packet's first word that may be text
 unfoldable pub textBits : ℕ → ℕ
@@ -54,14 +53,8 @@ seenText ws offset = pick (goodText ws offset (headedPackets ws offset)) (headed
 
 -- the same for a kind; 0 for a kind without text
 abbrev pub textPackets : Kind → List ℕ → ℕ
-textPackets K.EndpointDiscovery ws = 0
-textPackets K.EndpointInfo ws = 0
-textPackets K.DeviceIdentity ws = 0
-textPackets K.EndpointName ws = seenText ws 0
-textPackets K.ProductInstanceId ws = seenText ws 0
-textPackets K.FunctionBlockInfo ws = 0
-textPackets K.FunctionBlockName ws = seenText ws 1
+textPackets k ws = pick (hasText (layout k .body)) (seenText ws (offsetOf k)) 0
 
--- the heads of a message of this kind and n packets are right; text starts an octet later if each packet has a field
+-- the heads of a message of this kind and n packets are right
 unfoldable pub headsRight : Kind → List ℕ → ℕ → Bool
-headsRight k ws n = pick (ltb (mostOf k) n) false (eqb (headedPackets ws (pick (repeated k) 1 0)) n)
+headsRight k ws n = pick (ltb (mostOf k) n) false (eqb (headedPackets ws (offsetOf k)) n)

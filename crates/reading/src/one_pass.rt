@@ -7,6 +7,7 @@ use crate::heads::format_of;
 use crate::heads::type_of;
 use counts::PacketNumber;
 use kinds::kind::Kind;
+use table::rows::row_of;
 use text::packets::due_format;
 use text_check::good_text;
 
@@ -91,13 +92,9 @@ fn seen_text(words: &[u32], offset: usize) -> PacketNumber
 pub fn text_packets(kind: Kind, words: &[u32]) -> PacketNumber
     ensures { λ r. ⌜ r ≡ packet (textPackets kind (now (words .entry))) ⌝ }
 {
-    match kind {
-        Kind::EndpointName => seen_text(words, 0),
-        Kind::ProductInstanceId => seen_text(words, 0),
-        Kind::FunctionBlockName => seen_text(words, 1),
-        Kind::EndpointDiscovery => PacketNumber(0),
-        Kind::EndpointInfo => PacketNumber(0),
-        Kind::DeviceIdentity => PacketNumber(0),
-        Kind::FunctionBlockInfo => PacketNumber(0),
+    let row = row_of(kind);
+    if row.most_packets == 1 {
+        return PacketNumber(0);
     }
+    seen_text(words, row.text_offset)
 }

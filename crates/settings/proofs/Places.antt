@@ -13,12 +13,12 @@ use Rattle.table.specs.declared.names.NumberName.the-variants as N
 use Rattle.table.specs.declared.names.PairName.{PairName}
 use Rattle.table.specs.declared.names.PairName.the-variants as P
 use Rattle.table.specs.declared.names.FieldAt.{FieldAt}
-use Rattle.table.specs.Named.{flagNamed, numberNamed, pairNamed, flagAt, numberAt, pairAt, FieldIs}
+use Rattle.table.specs.Named.{flagNamed, numberNamed, pairNamed, flagAt, numberAt, pairAt, FieldIs, HomeIs}
 use Rattle.buffer.specs.Acts.{putIns}
 use Rattle.numbers.specs.BySlot.{fitFrom, putFrom}
 use Rattle.standard.specs.Words.{setOn}
-use Rattle.settings.specs.declared.fixed.Home.{Home}
-use Rattle.settings.specs.Fixed.{placeOn, slotOn, HomeIs, slotsOn}
+use Rattle.table.specs.declared.names.Home.{Home}
+use Rattle.settings.specs.Fixed.{homeOn, slotOn, slotsOn}
 use Rattle.settings.proofs.Slots.{facts, set-slot, set-slots, home-told}
 
 -- the septets of a pair, the low one first
@@ -58,10 +58,10 @@ pair-slots P.DeviceFamily x ws = set-slots K.DeviceIdentity _ _ refl _ _ _ refl 
 pair-slots P.DeviceFamilyModelNumber x ws = set-slots K.DeviceIdentity _ _ refl _ _ _ refl refl
 
 -- ---- and so at the home that the code was given
-pub flag-put : (f : FlagName) (b : Bool) (ws : List ℕ) {h : Home} → HomeIs (flagAt f .0) (flagAt f .1) h → setOn (Setting.flag (flagNamed f) b) ws ≡ placeOn (h .0) (h .1) (h .2) (h .3) (bit b) ws
+pub flag-put : (f : FlagName) (b : Bool) (ws : List ℕ) {h : Home} → HomeIs (flagAt f .0) (flagAt f .1) h → setOn (Setting.flag (flagNamed f) b) ws ≡ homeOn h (bit b) ws
 flag-put f b ws h = flag-slot f b ws ∙ home-told (bit b) ws h
 
-pub number-put : (n : NumberName) (x : ℕ) (ws : List ℕ) {h : Home} → HomeIs (numberAt n .0) (numberAt n .1) h → setOn (Setting.number (numberNamed n) x) ws ≡ placeOn (h .0) (h .1) (h .2) (h .3) x ws
+pub number-put : (n : NumberName) (x : ℕ) (ws : List ℕ) {h : Home} → HomeIs (numberAt n .0) (numberAt n .1) h → setOn (Setting.number (numberNamed n) x) ws ≡ homeOn h x ws
 number-put n x ws h = number-slot n x ws ∙ home-told x ws h
 
 pub pair-put : (p : PairName) (x : ℕ) (ws : List ℕ) {a : FieldAt} → FieldIs (pairAt p) a → setOn (Setting.pair (pairNamed p) x) ws ≡ slotsOn (a .0) (a .1) (septetsOf x) ws

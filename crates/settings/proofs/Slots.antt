@@ -25,13 +25,14 @@ use Rattle.standard.specs.Walk.{walkOf}
 use Rattle.standard.specs.Words.{outcome, unchanged, missing, answerTo, actIn, setOn}
 use Rattle.buffer.specs.Acts.{putIn, putIns}
 use Rattle.table.specs.Places.{slotAt}
+use Rattle.table.specs.Named.{HomeIs}
 use Rattle.numbers.specs.BySlot.{fitFrom, putFrom}
 use Rattle.buffer.proofs.Puts.{ins-put}
-use Rattle.settings.specs.declared.fixed.Home.{Home}
+use Rattle.table.specs.declared.names.Home.{Home}
 use Rattle.settings.specs.declared.target.Target.{Target}
 use Rattle.settings.specs.declared.target.Target.the-variants as T
 use Rattle.settings.specs.Target.{targetOf, settled}
-use Rattle.settings.specs.Fixed.{fitted, placeOn, slotOn, HomeIs, slotsOn}
+use Rattle.settings.specs.Fixed.{fitted, placeOn, homeOn, slotOn, slotsOn}
 use Rattle.settings.proofs.Owned.{ownedBy, own-has, Own, set-refused, set-own}
 use Rattle.settings.proofs.Settled.{settled-refused, settled-own}
 
@@ -51,7 +52,7 @@ module _ (status word at span v : ℕ) (ws : List ℕ) where
     place-done h = settled-own _ ws e ∙ rw (lt-ltb v (2 ^ span) (leb-false (2 ^ span) v h))
 
 -- by the home that the code was given for a slot
-pub home-told : {k : Kind} {i : ℕ} (v : ℕ) (ws : List ℕ) {h : Home} → HomeIs k i h → slotOn k i v ws ≡ placeOn (h .0) (h .1) (h .2) (h .3) v ws
+pub home-told : {k : Kind} {i : ℕ} (v : ℕ) (ws : List ℕ) {h : Home} → HomeIs k i h → slotOn k i v ws ≡ homeOn h v ws
 unfolding slotOn
 home-told v ws h = rw (h .status, h .word, h .low, h .width)
 

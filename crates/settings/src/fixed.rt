@@ -1,6 +1,6 @@
 // Settings of fixed kinds by slot: one number, or several in slots one after another.
 ghost use mathlib.Core.Path.{_≡_};
-ghost use Rattle.settings.specs.Fixed.{placeOn, HomeIs, slotsOn};
+ghost use Rattle.settings.specs.Fixed.{placeOn, slotsOn};
 use crate::target::Target;
 use crate::target::find_target;
 use buffer::fields::put_field;
@@ -10,20 +10,7 @@ use kinds::refusal::Refusal;
 use numbers::by_slot::numbers_fit;
 use numbers::by_slot::put_numbers;
 use records::answers::Answer;
-use table::places::place_of;
 use table::rows::row_of;
-
-// Where a slot stands: the status of its kind, its word, lowest bit and width.
-pub(crate) struct Home(pub u32, pub usize, pub usize, pub usize);
-
-// Callers give constants, so that the compiler looks the slot up.
-pub(crate) fn home_of(kind: Kind, slot: u8) -> Home
-    ensures { λ r. ⌜ HomeIs kind slot r ⌝ }
-{
-    let row = row_of(kind);
-    let place = place_of(kind, slot as usize);
-    Home(row.status, place.0, place.1, place.2)
-}
 
 // The refusals of the target, then 12; else the number is put into the `span` bits from bit `at` on.
 pub(crate) fn set_place(

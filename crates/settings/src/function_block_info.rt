@@ -2,7 +2,6 @@
 ghost use mathlib.Core.Path.{_≡_};
 ghost use Rattle.kinds.specs.Fields.{Flag, Number, Setting};
 ghost use Rattle.standard.specs.Words.{setOn};
-use crate::fixed::home_of;
 use crate::fixed::set_place;
 use crate::named::set_flag;
 use crate::named::set_number;
@@ -19,6 +18,7 @@ use table::names::FlagName;
 use table::names::MIDI1_PORT;
 use table::names::NumberName;
 use table::names::UI_HINT;
+use table::names::home_of;
 
 pub fn set_active(words: &mut [u32], on: bool) -> Answer
     ensures answer { λ r. ⌜ r ≡ setOn (Setting.flag Flag.active on) (now (words .entry)) .answer ⌝ }
@@ -39,7 +39,14 @@ pub fn set_ui_hint(words: &mut [u32], hint: UiHint) -> Answer
     ensures buffer { λ r. ⌜ now (words .exit) ≡ setOn (Setting.ui-hint hint) (now (words .entry)) .words ⌝ }
 {
     let home = home_of(Kind::FunctionBlockInfo, UI_HINT);
-    set_place(words, home.0, home.1, home.2, home.3, hint_code(hint))
+    set_place(
+        words,
+        home.status,
+        home.word,
+        home.low,
+        home.width,
+        hint_code(hint),
+    )
 }
 
 pub fn set_midi1_port(words: &mut [u32], port: Midi1Port) -> Answer
@@ -47,7 +54,14 @@ pub fn set_midi1_port(words: &mut [u32], port: Midi1Port) -> Answer
     ensures buffer { λ r. ⌜ now (words .exit) ≡ setOn (Setting.midi1-port port) (now (words .entry)) .words ⌝ }
 {
     let home = home_of(Kind::FunctionBlockInfo, MIDI1_PORT);
-    set_place(words, home.0, home.1, home.2, home.3, port_code(port))
+    set_place(
+        words,
+        home.status,
+        home.word,
+        home.low,
+        home.width,
+        port_code(port),
+    )
 }
 
 pub fn set_direction(words: &mut [u32], direction: Direction) -> Answer
@@ -57,10 +71,10 @@ pub fn set_direction(words: &mut [u32], direction: Direction) -> Answer
     let home = home_of(Kind::FunctionBlockInfo, DIRECTION);
     set_place(
         words,
-        home.0,
-        home.1,
-        home.2,
-        home.3,
+        home.status,
+        home.word,
+        home.low,
+        home.width,
         direction_code(direction),
     )
 }

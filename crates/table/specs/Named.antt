@@ -4,6 +4,7 @@ use mathlib.Core.Path.{_≡_}
 use Rattle.kinds.specs.declared.kind.Kind.{Kind}
 use Rattle.kinds.specs.declared.kind.Kind.the-variants as K
 use Rattle.kinds.specs.Fields.{Flag, Number, Pair}
+use Rattle.kinds.specs.Layout.{layout}
 use Rattle.table.specs.declared.names.FlagName.{FlagName}
 use Rattle.table.specs.declared.names.FlagName.the-variants as F
 use Rattle.table.specs.declared.names.NumberName.{NumberName}
@@ -11,6 +12,8 @@ use Rattle.table.specs.declared.names.NumberName.the-variants as N
 use Rattle.table.specs.declared.names.PairName.{PairName}
 use Rattle.table.specs.declared.names.PairName.the-variants as P
 use Rattle.table.specs.declared.names.FieldAt.{FieldAt}
+use Rattle.table.specs.declared.names.Home.{Home}
+use Rattle.table.specs.Places.{slotAt}
 
 abbrev pub flagNamed : FlagName → Flag
 flagNamed F.RequestEndpointInfo = Flag.request-endpoint-info
@@ -77,3 +80,10 @@ pairAt P.DeviceFamilyModelNumber = field K.DeviceIdentity 5
 pub record FieldIs (a r : FieldAt) : Type 0 where
   pub kind : r .0 ≡ a .0
   pub slot : r .1 ≡ a .1
+
+-- where the code says that slot i of a kind stands
+pub record HomeIs (k : Kind) (i : ℕ) (r : Home) : Type 0 where
+  pub status : r .status ≡ layout k .status
+  pub word : r .word ≡ slotAt (layout k .fields) i .word
+  pub low : r .low ≡ slotAt (layout k .fields) i .at
+  pub width : r .width ≡ slotAt (layout k .fields) i .span

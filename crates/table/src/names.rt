@@ -1,5 +1,7 @@
-// The flags, numbers and pairs of the fixed kinds by name; settings/src/named.rt has the slot of each flag and number.
-ghost use Rattle.table.specs.Named.{FieldIs, pairAt};
+// The flags, numbers and pairs of the fixed kinds by name, and where each stands.
+ghost use Rattle.table.specs.Named.{FieldIs, HomeIs, flagAt, numberAt, pairAt};
+use crate::places::place_of;
+use crate::rows::row_of;
 use kinds::kind::Kind;
 
 pub enum FlagName {
@@ -49,11 +51,105 @@ pub const SOFTWARE_VERSION: u8 = 7;
 // The kind that has a field, and the field's first slot.
 pub struct FieldAt(pub Kind, pub u8);
 
+pub fn flag_at(flag: FlagName) -> FieldAt
+    ensures { λ r. ⌜ FieldIs (flagAt flag) r ⌝ }
+{
+    match flag {
+        FlagName::RequestEndpointInfo => FieldAt(Kind::EndpointDiscovery, 2),
+        FlagName::RequestDeviceIdentity => FieldAt(Kind::EndpointDiscovery, 3),
+        FlagName::RequestEndpointName => FieldAt(Kind::EndpointDiscovery, 4),
+        FlagName::RequestProductInstanceId => FieldAt(Kind::EndpointDiscovery, 5),
+        FlagName::RequestStreamConfiguration => FieldAt(Kind::EndpointDiscovery, 6),
+        FlagName::StaticFunctionBlocks => FieldAt(Kind::EndpointInfo, 2),
+        FlagName::SupportsMidi2Protocol => FieldAt(Kind::EndpointInfo, 3),
+        FlagName::SupportsMidi1Protocol => FieldAt(Kind::EndpointInfo, 4),
+        FlagName::SupportsReceivingJrTimestamps => FieldAt(Kind::EndpointInfo, 5),
+        FlagName::SupportsSendingJrTimestamps => FieldAt(Kind::EndpointInfo, 6),
+        FlagName::Active => FieldAt(Kind::FunctionBlockInfo, 0),
+    }
+}
+
+pub fn number_at(number: NumberName) -> FieldAt
+    ensures { λ r. ⌜ FieldIs (numberAt number) r ⌝ }
+{
+    match number {
+        NumberName::DiscoveryVersionMajor => FieldAt(Kind::EndpointDiscovery, 0),
+        NumberName::DiscoveryVersionMinor => FieldAt(Kind::EndpointDiscovery, 1),
+        NumberName::InfoVersionMajor => FieldAt(Kind::EndpointInfo, 0),
+        NumberName::InfoVersionMinor => FieldAt(Kind::EndpointInfo, 1),
+        NumberName::NumberOfFunctionBlocks => FieldAt(Kind::EndpointInfo, 7),
+        NumberName::FunctionBlockNumber => FieldAt(Kind::FunctionBlockInfo, 1),
+        NumberName::FirstGroup => FieldAt(Kind::FunctionBlockInfo, 5),
+        NumberName::NumberOfGroupsSpanned => FieldAt(Kind::FunctionBlockInfo, 6),
+        NumberName::MidiCiVersion => FieldAt(Kind::FunctionBlockInfo, 7),
+        NumberName::MaxNumberOfMidiCiStreams => FieldAt(Kind::FunctionBlockInfo, 8),
+    }
+}
+
 pub fn pair_at(pair: PairName) -> FieldAt
     ensures { λ r. ⌜ FieldIs (pairAt pair) r ⌝ }
 {
     match pair {
         PairName::DeviceFamily => FieldAt(Kind::DeviceIdentity, 3),
         PairName::DeviceFamilyModelNumber => FieldAt(Kind::DeviceIdentity, 5),
+    }
+}
+
+// Where a number stands in words: the status of its kind, its word, lowest bit and width.
+pub struct Home {
+    pub status: u32,
+    pub word: usize,
+    pub low: usize,
+    pub width: usize,
+}
+
+// Callers give constants, so that the compiler looks the slot up.
+pub fn home_of(kind: Kind, slot: u8) -> Home
+    ensures { λ r. ⌜ HomeIs kind slot r ⌝ }
+{
+    let row = row_of(kind);
+    let place = place_of(kind, slot as usize);
+    Home {
+        status: row.status,
+        word: place.0,
+        low: place.1,
+        width: place.2,
+    }
+}
+
+// The home of `flag_at`. Each arm asks by constants, so that the compiler turns the whole into a table.
+pub fn flag_home(flag: FlagName) -> Home
+    ensures { λ r. ⌜ HomeIs (flagAt flag .0) (flagAt flag .1) r ⌝ }
+{
+    match flag {
+        FlagName::RequestEndpointInfo => home_of(Kind::EndpointDiscovery, 2),
+        FlagName::RequestDeviceIdentity => home_of(Kind::EndpointDiscovery, 3),
+        FlagName::RequestEndpointName => home_of(Kind::EndpointDiscovery, 4),
+        FlagName::RequestProductInstanceId => home_of(Kind::EndpointDiscovery, 5),
+        FlagName::RequestStreamConfiguration => home_of(Kind::EndpointDiscovery, 6),
+        FlagName::StaticFunctionBlocks => home_of(Kind::EndpointInfo, 2),
+        FlagName::SupportsMidi2Protocol => home_of(Kind::EndpointInfo, 3),
+        FlagName::SupportsMidi1Protocol => home_of(Kind::EndpointInfo, 4),
+        FlagName::SupportsReceivingJrTimestamps => home_of(Kind::EndpointInfo, 5),
+        FlagName::SupportsSendingJrTimestamps => home_of(Kind::EndpointInfo, 6),
+        FlagName::Active => home_of(Kind::FunctionBlockInfo, 0),
+    }
+}
+
+// The home of `number_at`, by constants too.
+pub fn number_home(number: NumberName) -> Home
+    ensures { λ r. ⌜ HomeIs (numberAt number .0) (numberAt number .1) r ⌝ }
+{
+    match number {
+        NumberName::DiscoveryVersionMajor => home_of(Kind::EndpointDiscovery, 0),
+        NumberName::DiscoveryVersionMinor => home_of(Kind::EndpointDiscovery, 1),
+        NumberName::InfoVersionMajor => home_of(Kind::EndpointInfo, 0),
+        NumberName::InfoVersionMinor => home_of(Kind::EndpointInfo, 1),
+        NumberName::NumberOfFunctionBlocks => home_of(Kind::EndpointInfo, 7),
+        NumberName::FunctionBlockNumber => home_of(Kind::FunctionBlockInfo, 1),
+        NumberName::FirstGroup => home_of(Kind::FunctionBlockInfo, 5),
+        NumberName::NumberOfGroupsSpanned => home_of(Kind::FunctionBlockInfo, 6),
+        NumberName::MidiCiVersion => home_of(Kind::FunctionBlockInfo, 7),
+        NumberName::MaxNumberOfMidiCiStreams => home_of(Kind::FunctionBlockInfo, 8),
     }
 }

@@ -1,26 +1,24 @@
--- The heads of the three text kinds, one word but for the format. Closed by computing the table's row, and arithmetic.
-use Prim.Native.Nat.{ℕ}
+-- The heads of text kinds, one word but for the format. Closed by the row's fields, and arithmetic.
+use Prim.Native.Nat.{ℕ, _+_, _*_}
 use mathlib.Core.Path.{_≡_}
-use mathlib.Core.List.{List}
+use mathlib.Core.List.{List, []}
 use native.Mathlib.Omega.{arith}
 use lib.ListN.{length, getD, List·getD-eq-default}
 use Rattle.laws.specs.Lists.{map}
 use Rattle.slots.specs.Slots.{get, put, putAll, those}
+use Rattle.kinds.specs.declared.kind.Kind.{Kind}
 use Rattle.kinds.specs.declared.kind.Kind.the-variants as K
 use Rattle.kinds.specs.Fields.{Field, joined, partOf, same, decided}
 use Rattle.kinds.specs.Layout.{layout, held, valuesIn}
+use Rattle.kinds.proofs.Rows.{status-small}
 use Rattle.standard.specs.Words.{putWord, headOf}
 use Rattle.buffer.specs.Acts.{formatted}
 use Rattle.text_settings.specs.Texts.{upperOf, blockHead}
 
-module _ (v : Field → List ℕ) (format : ℕ) where
-  pub name-head : headOf (layout K.EndpointName) v format ≡ formatted 0xF003_0000 format
-  unfolding layout putWord putAll
-  name-head = omega arith
-
-  pub id-head : headOf (layout K.ProductInstanceId) v format ≡ formatted 0xF004_0000 format
-  unfolding layout putWord putAll
-  id-head = omega arith
+-- of a kind without fields
+pub plain-head : (k : Kind) (v : Field → List ℕ) → layout k .fields ≡ [] → (format : ℕ) → headOf (layout k) v format ≡ formatted (0xF000_0000 + layout k .status * 0x1_0000) format
+unfolding putWord putAll
+plain-head k v e format = let s = status-small k in rw e (omega arith)
 
 -- a block name keeps the number of its first packet
 pub block-heads : (ws : List ℕ) (format : ℕ) → headOf (layout K.FunctionBlockName) (valuesIn (layout K.FunctionBlockName .fields) ws) format ≡ formatted (blockHead ws) format

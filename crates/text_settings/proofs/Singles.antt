@@ -15,12 +15,12 @@ use Rattle.text.specs.Octets.{dueFormat}
 use Rattle.text_check.specs.FastCheck.{isGood, asciiText, asciiPacket}
 use Rattle.text_check.proofs.AsciiPackets.{ascii-good, ascii-later}
 use Rattle.kinds.specs.declared.kind.Kind.{Kind}
-use Rattle.kinds.specs.declared.kind.Kind.the-variants as K
-use Rattle.kinds.specs.Layout.{layout, capacityOf}
+use Rattle.kinds.specs.Layout.{layout}
 use Rattle.kinds.proofs.Rows.{status-small}
 use Rattle.standard.specs.Heads.{typeOf, formatOf, statusOf, streamType, headAt, packetsOf}
 use Rattle.standard.specs.Walk.{walkOf}
-use Rattle.reading.specs.OnePass.{headBits, likeFirst, endsAt, headedPackets, seenText, textPackets}
+use Rattle.reading.specs.Bodies.{offsetOf}
+use Rattle.reading.specs.OnePass.{headBits, likeFirst, endsAt, headedPackets, seenText}
 use Rattle.reading.proofs.Passes.{same-type, turn-ends, seen-good}
 use Rattle.settings.specs.declared.target.Target.the-variants as T
 use Rattle.settings.specs.Target.{targetOf}
@@ -37,9 +37,6 @@ module _ (w status : ℕ) (e : upperOf w ≡ 0xF000 + status) (small : status < 
 
   whole-status : statusOf w ≡ status
   whole-status = omega arith
-
-pub head-status : {k : Kind} {head : ℕ} → SingleHead k head → statusOf head ≡ layout k .status
-head-status {k} h = whole-status _ _ (h .upper) (status-small k)
 
 -- ---- what the pass sees of a first packet that is whole
 module _ (ws : List ℕ) (offset : ℕ) (long : 4 ≤ length ws) where
@@ -64,17 +61,6 @@ module _ (ws : List ℕ) (offset : ℕ) (long : 4 ≤ length ws) where
       let l = length-take-le 4 ws long in
       seen-good ws offset 1 h (ap isGood (ascii-good (take 4 ws) offset (packetsOf (take 4 ws)) (λ p i. let z : p ≡ 0 = omega (arith, l, i) in rw z (front-plain e))))
 
--- only a kind with text has room for it in a packet
-one-text : (k : Kind) (ws : List ℕ) → 0 < capacityOf k → ((offset : ℕ) → 1 ≡ seenText ws offset) → textPackets k ws ≡ 1
-unfolding layout
-one-text K.EndpointDiscovery ws l e = absurd (omega arith)
-one-text K.EndpointInfo ws l e = absurd (omega arith)
-one-text K.DeviceIdentity ws l e = absurd (omega arith)
-one-text K.EndpointName ws l e = sym (e 0)
-one-text K.ProductInstanceId ws l e = sym (e 0)
-one-text K.FunctionBlockInfo ws l e = absurd (omega arith)
-one-text K.FunctionBlockName ws l e = sym (e 1)
-
 -- A LONE PACKET IS THE TARGET
 pub single-target : (k : Kind) (ws : List ℕ) (head : ℕ) → SingleHead k head → singleAscii ws head ≡ true → T.Packets (packet 1) ≡ targetOf (layout k .status) (walkOf ws 0)
 unfolding singleAscii
@@ -85,5 +71,5 @@ single-target k ws head own e =
     let long = ltb-false _ _ (a .0) in
     let upper : upperOf (getD ws 0 0) ≡ 0xF000 + layout k .status = differ-false _ _ (b .0) ∙ own .upper in
     let small = status-small k in
-    let seen : (offset : ℕ) → 1 ≡ seenText ws offset = λ offset. one-seen ws offset long (ascii-later ws offset 0 (b .1)) (sym (one-headed ws offset long (whole-type _ _ upper small) (whole-format _ _ upper small))) in
-    seen-target k ws 1 (whole-status _ _ upper small) (one-text k ws (own .text) seen) (lit≤ tt)
+    let seen : 1 ≡ seenText ws (offsetOf k) = one-seen ws (offsetOf k) long (ascii-later ws (offsetOf k) 0 (b .1)) (sym (one-headed ws (offsetOf k) long (whole-type _ _ upper small) (whole-format _ _ upper small))) in
+    seen-target k ws 1 (whole-status _ _ upper small) (rw (own .text) (sym seen)) (lit≤ tt)

@@ -11,11 +11,5 @@ pub fn set_name(words: &mut [u32], name: &[u8]) -> Answer
     ensures answer { λ r. ⌜ r ≡ setOn (Setting.text Text.endpoint-name (now (name .entry))) (now (words .entry)) .answer ⌝ }
     ensures buffer { λ r. ⌜ now (words .exit) ≡ setOn (Setting.text Text.endpoint-name (now (name .entry))) (now (words .entry)) .words ⌝ }
 {
-    set_text(
-        words,
-        Kind::EndpointName,
-        0,
-        head_of(Kind::EndpointName),
-        name,
-    )
+    set_text(words, Kind::EndpointName, head_of(Kind::EndpointName), name)
 }

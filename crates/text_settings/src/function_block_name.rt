@@ -11,22 +11,22 @@ use kinds::kind::Kind;
 use kinds::refusal::Refusal;
 use records::answers::Answer;
 use settings::target::Target;
+use table::places::place_of;
 use table::rows::head_of;
-use table::rows::row_of;
 
 // The refusals of the target, then 12; else the number goes into each packet of the message and none after.
 pub fn set_function_block(words: &mut [u32], number: u32) -> Answer
     ensures answer { λ r. ⌜ r ≡ setOn (Setting.number Number.function-block number) (now (words .entry)) .answer ⌝ }
     ensures buffer { λ r. ⌜ now (words .exit) ≡ setOn (Setting.number Number.function-block number) (now (words .entry)) .words ⌝ }
 {
-    let row = row_of(Kind::FunctionBlockName);
-    match find_text_target(words, Kind::FunctionBlockName, row.status) {
+    let place = place_of(Kind::FunctionBlockName, 0);
+    match find_text_target(words, Kind::FunctionBlockName) {
         Target::Refused(refusal) => Answer::Refused(refusal),
         Target::Packets(packets) => {
-            if too_large(8, number) {
+            if too_large(place.2, number) {
                 return Answer::Refused(Refusal::NumberTooLarge);
             }
-            put_each(words, packets, 8, 8, number);
+            put_each(words, packets, place.1, place.2, number);
             Answer::Done
         }
     }
@@ -48,5 +48,5 @@ pub fn set_name(words: &mut [u32], name: &[u8]) -> Answer
     ensures buffer { λ r. ⌜ now (words .exit) ≡ setOn (Setting.text Text.function-block-name (now (name .entry))) (now (words .entry)) .words ⌝ }
 {
     let head = block_head(words);
-    set_text(words, Kind::FunctionBlockName, 1, head, name)
+    set_text(words, Kind::FunctionBlockName, head, name)
 }

@@ -14,7 +14,6 @@ pub fn set_id(words: &mut [u32], id: &[u8]) -> Answer
     set_text(
         words,
         Kind::ProductInstanceId,
-        0,
         head_of(Kind::ProductInstanceId),
         id,
     )

@@ -10,6 +10,7 @@ use reading::heads::status_of;
 use reading::one_pass::text_packets;
 use settings::target::Target;
 use settings::target::find_target;
+use table::rows::row_of;
 use text_check::ascii::ascii_packet;
 
 // Whether the first packet has the type, format and status of this head, and its text is ASCII.
@@ -26,19 +27,19 @@ fn is_single_ascii_packet(words: &[u32], head: u32) -> bool
 }
 
 // The packets of a message of this kind, or why a setting of it is refused. Fast path: one pass over the heads.
-pub(crate) fn find_text_target(words: &[u32], kind: Kind, status: u32) -> Target
-    requires { ⌜ status ≡ layout kind .status ⌝ }
-    ensures { λ r. ⌜ r ≡ targetOf status (walkOf (now (words .entry)) 0) ⌝ }
+pub(crate) fn find_text_target(words: &[u32], kind: Kind) -> Target
+    ensures { λ r. ⌜ r ≡ targetOf (layout kind .status) (walkOf (now (words .entry)) 0) ⌝ }
 {
+    let row = row_of(kind);
     if words.len() != 0 {
-        if status_of(words[0]) == status {
+        if status_of(words[0]) == row.status {
             let packets = text_packets(kind, words);
             if packets.0 != 0 {
                 return Target::Packets(packets);
             }
         }
     }
-    find_target(words, status)
+    find_target(words, row.status)
 }
 
 // Fast path: if a single ASCII packet stands there, no other check is needed.
@@ -49,5 +50,5 @@ pub(crate) fn find_target_fast(words: &[u32], kind: Kind, head: u32) -> Target
     if is_single_ascii_packet(words, head) {
         return Target::Packets(PacketNumber(1));
     }
-    find_text_target(words, kind, status_of(head))
+    find_text_target(words, kind)
 }

@@ -1,7 +1,5 @@
-// Sets text in packets, for any offset: first why it may be refused, then the writing.
+// Sets text in packets, by the row of its kind: first why it may be refused, then the writing.
 ghost use mathlib.Core.Path.{_≡_};
-ghost use Prim.Native.Nat.{_<_};
-ghost use Rattle.kinds.specs.Layout.{layout};
 ghost use Rattle.text.specs.Octets.{needed};
 ghost use Rattle.text_settings.specs.Texts.{SingleHead, roomOf, planOf, textOn};
 use crate::target::find_target_fast;
@@ -11,6 +9,7 @@ use kinds::kind::Kind;
 use kinds::refusal::Refusal;
 use records::answers::Answer;
 use settings::target::Target;
+use table::rows::row_of;
 use text::packets::packets_needed;
 use text_check::check_utf8;
 use utf8::Utf8;
@@ -46,26 +45,21 @@ pub fn plan_text(text: &[u8], capacity: usize, room: PacketNumber) -> Plan
     }
 }
 
-// The refusals of the target, then of the plan; else the text goes into each needed packet, from octet 2 + offset on, with this head.
-pub(crate) fn set_text(
-    words: &mut [u32],
-    kind: Kind,
-    offset: usize,
-    head: u32,
-    text: &[u8],
-) -> Answer
-    requires { ⌜ SingleHead kind head × (offset < 14) ⌝ }
-    ensures answer { λ r. ⌜ r ≡ textOn (layout kind .status) offset head (now (text .entry)) (now (words .entry)) .answer ⌝ }
-    ensures buffer { λ r. ⌜ now (words .exit) ≡ textOn (layout kind .status) offset head (now (text .entry)) (now (words .entry)) .words ⌝ }
+// The refusals of the target, then of the plan; else the text goes into each needed packet, with this head.
+pub(crate) fn set_text(words: &mut [u32], kind: Kind, head: u32, text: &[u8]) -> Answer
+    requires { ⌜ SingleHead kind head ⌝ }
+    ensures answer { λ r. ⌜ r ≡ textOn kind head (now (text .entry)) (now (words .entry)) .answer ⌝ }
+    ensures buffer { λ r. ⌜ now (words .exit) ≡ textOn kind head (now (text .entry)) (now (words .entry)) .words ⌝ }
 {
+    let row = row_of(kind);
     match find_target_fast(words, kind, head) {
         Target::Refused(refusal) => Answer::Refused(refusal),
         Target::Packets(_) => {
             let room = PacketNumber(words.len() / 4);
-            match plan_text(text, 14 - offset, room) {
+            match plan_text(text, 14 - row.text_offset, room) {
                 Plan::Refused(refusal) => Answer::Refused(refusal),
                 Plan::Needs(packets) => {
-                    fill_text(words, text, offset, head, packets);
+                    fill_text(words, text, row.text_offset, head, packets);
                     Answer::Done
                 }
             }

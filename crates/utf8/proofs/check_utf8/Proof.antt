@@ -15,10 +15,6 @@ Inv-loop text s₀ i₀ s i = (i ≤ length text) × (verdictFrom (meaning s) i 
 abbrev μ-loop : tie.MeasureT-loop
 μ-loop text s₀ i₀ s i = length text - i
 
-loop-holds : tie.Need-loop-holds Inv-loop μ-loop
-unfolding firstBad
-loop-holds c = (search needs, rw (c .new-scan .ensures))
-
 -- what holds after a byte was read, on both paths from there
 passed : (c : tie.After-after-byte Inv-loop μ-loop) → verdictFrom (meaning (c .after-byte .result)) (c .before .before .before .loop .i + 1) (drop (c .before .before .before .loop .i + 1) (c .before .before .before .before .before .before .args .text .now)) ≡ firstBad (c .before .before .before .before .before .before .args .text .now)
 passed c =
@@ -37,9 +33,10 @@ returns-2 : tie.Need-returns-2 Inv-loop μ-loop
 returns-2 c = c .verdict-at-end .ensures ∙ scan-finish _ _ _ (c .before .loop-test .left) ∙ c .before .before .loop .inv .1
 
 pub check-utf8-spec : {M : Type 1} → statement M
+unfolding firstBad
 check-utf8-spec =
     tie.close
     (tie.spec
-    Inv-loop μ-loop (λ c κs. search needs) loop-holds (λ c. search needs) (λ c κs. search needs)
-    (λ c. search needs) returns (λ c. search needs) (λ c. search needs) (λ c. search needs)
-    loop-again (λ c κs. search needs) returns-2)
+    Inv-loop μ-loop (λ c κs. search needs) (λ c. (search needs, rw (c .new-scan .ensures)))
+    (λ c. search needs) (λ c κs. search needs) (λ c. search needs) returns (λ c. search needs)
+    (λ c. search needs) (λ c. search needs) loop-again (λ c κs. search needs) returns-2)

@@ -15,10 +15,6 @@ Inv-loop words pos status p₀ at₀ p at = (p ≤ 64) × (at ≤ length words) 
 abbrev μ-loop : tie.MeasureT-loop
 μ-loop words pos status p₀ at₀ p at = 64 - p
 
-loop-holds : tie.Need-loop-holds Inv-loop μ-loop
-unfolding frameOf
-loop-holds c = (search needs, search needs, rw (c .status-of .ensures))
-
 returns : tie.Need-returns Inv-loop μ-loop
 returns c = packet-short _ _ _ _ _ (c .if1 .taken) ∙ frame-open _ _ _ _ (c .before .loop-test .taken) ∙ c .before .before .loop .inv .2
 
@@ -41,11 +37,13 @@ returns-6 : tie.Need-returns-6 Inv-loop μ-loop
 returns-6 c = frame-end _ _ _ _ (c .loop-test .left) ∙ c .before .loop .inv .2
 
 pub frame-spec : {M : Type 1} → statement M
+unfolding frameOf
 frame-spec =
     tie.close
     (tie.spec
-    Inv-loop μ-loop (λ c. search needs) (λ c. search needs) (λ c κs. search needs) loop-holds
-    (λ c. search needs) returns (λ c. search needs) (λ c. search needs) (λ c κs. search needs)
-    returns-2 (λ c κs. search needs) returns-3 (λ c κs. search needs) (λ c κs. search needs)
+    Inv-loop μ-loop (λ c. search needs) (λ c. search needs) (λ c κs. search needs)
+    (λ c. (search needs, search needs, rw (c .status-of .ensures))) (λ c. search needs) returns
+    (λ c. search needs) (λ c. search needs) (λ c κs. search needs) returns-2
+    (λ c κs. search needs) returns-3 (λ c κs. search needs) (λ c κs. search needs)
     (λ c. search needs) (λ c. search needs) returns-4 (λ c. search needs) (λ c. search needs)
     returns-5 (λ c. search needs) (λ c. search needs) (λ c. search needs) loop-again returns-6)

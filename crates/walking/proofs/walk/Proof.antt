@@ -7,21 +7,13 @@ use borrow.Author.Needs.{needs}
 use Rattle.walking.proofs.walk.Statement.{statement}
 use Rattle.walking.proofs.walk.Tie as tie
 
-returns : tie.Need-returns
-unfolding walkOf
-returns c = here _ (le-leb _ _ (c .if1 .taken)) refl
-
-returns-2 : tie.Need-returns-2
-unfolding walkOf
-returns-2 c = rw (← c .before .before .type-of .ensures) (past _ (lt-leb _ _ (c .before .before .before .before .if1 .left)) (here _ (ne-differ _ _ (c .before .if2 .taken)) (c .walk-other .ensures)))
-
-returns-3 : tie.Need-returns-3
-unfolding walkOf
-returns-3 c = rw (← c .before .before .type-of .ensures) (past _ (lt-leb _ _ (c .before .before .before .before .if1 .left)) (past _ (eq-differ _ _ (c .before .if2 .left)) (c .walk-framed .ensures)))
-
 pub walk-spec : {M : Type 1} → statement M
+unfolding walkOf
 walk-spec =
     tie.close
     (tie.spec
-    returns (λ c. search needs) (λ c. search needs) (λ c κs. search needs) (λ c. search needs)
-    (λ c κs. search needs) returns-2 (λ c κs. search needs) returns-3)
+    (λ c. here _ (le-leb _ _ (c .if1 .taken)) refl) (λ c. search needs) (λ c. search needs)
+    (λ c κs. search needs) (λ c. search needs) (λ c κs. search needs)
+    (λ c. rw (← c .before .before .type-of .ensures) (past _ (lt-leb _ _ (c .before .before .before .before .if1 .left)) (here _ (ne-differ _ _ (c .before .if2 .taken)) (c .walk-other .ensures))))
+    (λ c κs. search needs)
+    (λ c. rw (← c .before .before .type-of .ensures) (past _ (lt-leb _ _ (c .before .before .before .before .if1 .left)) (past _ (eq-differ _ _ (c .before .if2 .left)) (c .walk-framed .ensures)))))

@@ -36,13 +36,10 @@ loop-again c = (refl, omega arith, omega arith, more-filled (c .before .loop .in
 same-length : tie.Need-same-length Inv-loop μ-loop
 same-length c = c .before .loop .inv .3 .long
 
-returns : tie.Need-returns Inv-loop μ-loop
-unfolding clearFrom
-returns c = all-filled (c .before .loop .inv .3) _ (omega arith)
-
 pub clear-from-spec : {M : Type 1} → statement M
+unfolding clearFrom
 clear-from-spec =
     tie.close
     (tie.spec
     Inv-loop μ-loop (λ c. search needs) loop-holds (λ c. search needs) slice-write-words add-k
-    loop-less loop-again same-length returns)
+    loop-less loop-again same-length (λ c. all-filled (c .before .loop .inv .3) _ (omega arith)))

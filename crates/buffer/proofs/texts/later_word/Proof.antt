@@ -20,11 +20,8 @@ four-bytes-requires c κs = omega (arith, product {p = c .before .before .args .
 returns : tie.Need-returns
 returns c = c .four-bytes .ensures ∙ word-of-text _ _ _ _ _ (c .before .before .before .pre .0) _ (c .before .if1 .taken) _ refl
 
-returns-2 : tie.Need-returns-2
-unfolding wordIn
-returns-2 c = rw (c .before .before .before .octet-at .ensures .0, c .before .before .octet-at2 .ensures .0, c .before .octet-at3 .ensures .0, c .octet-at4 .ensures .0)
-
 pub later-word-spec : {M : Type 1} → statement M
+unfolding wordIn
 later-word-spec =
     tie.close
     (tie.spec
@@ -32,4 +29,5 @@ later-word-spec =
     (λ c. search needs) add-four-bytes-2 four-bytes-requires returns (λ c κs. search needs)
     (λ c. search needs) (λ c κs. search needs) (λ c. search needs) (λ c κs. search needs)
     (λ c. search needs) (λ c κs. search needs) (λ c. search needs) (λ c. search needs)
-    (λ c. search needs) (λ c. search needs) (λ c. search needs) (λ c. search needs) returns-2)
+    (λ c. search needs) (λ c. search needs) (λ c. search needs) (λ c. search needs)
+    (λ c. rw (c .before .before .before .octet-at .ensures .0, c .before .before .octet-at2 .ensures .0, c .before .octet-at3 .ensures .0, c .octet-at4 .ensures .0)))

@@ -16,10 +16,6 @@ Inv-loop bytes words₀ n i₀ words i = (n ≡ min (length bytes / 4) (length w
 abbrev μ-loop : tie.MeasureT-loop
 μ-loop bytes words₀ n i₀ words i = n - i
 
-loop-holds : tie.Need-loop-holds Inv-loop μ-loop
-unfolding upTo
-loop-holds c = (c .least .ensures, omega arith, refl, refl)
-
 loop-again : tie.Need-loop-again Inv-loop μ-loop
 loop-again c = let l = c .before .before .loop .inv in
     (l .0, omega arith, simp length-set (l .2), rw (l .3, c .word-at .ensures) (upTo-more _ _ _ (omega arith)))
@@ -30,9 +26,10 @@ returns c = let l = c .before .loop .inv in
     (e ∙ l .0, l .3)
 
 pub read-words-spec : {M : Type 1} → statement M
+unfolding upTo
 read-words-spec =
     tie.close
     (tie.spec
-    Inv-loop μ-loop (λ c κs. search needs) loop-holds (λ c κs. search needs) (λ c. search needs)
-    (λ c. search needs) (λ c. search needs) (λ c. search needs) loop-again (λ c. search needs)
-    returns)
+    Inv-loop μ-loop (λ c κs. search needs) (λ c. (c .least .ensures, omega arith, refl, refl))
+    (λ c κs. search needs) (λ c. search needs) (λ c. search needs) (λ c. search needs)
+    (λ c. search needs) loop-again (λ c. search needs) returns)

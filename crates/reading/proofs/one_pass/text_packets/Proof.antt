@@ -1,34 +1,19 @@
--- `one_pass::text_packets` meets its contract, kind by kind.
+-- `one_pass::text_packets` meets its contract: by its row a kind has no text, or text that is seen.
+use Rattle.reading.proofs.TextRows.{one-told, several-told}
 use borrow.Author.Needs.{needs}
 use Rattle.reading.proofs.one_pass.text_packets.Statement.{statement}
 use Rattle.reading.proofs.one_pass.text_packets.Tie as tie
 
 returns : tie.Need-returns
-returns c = rw (c .before .enum-told .given .1) (c .seen-text .ensures)
+returns c = rw (one-told (c .before .before .before .before .args .kind) (c .before .before .row-of .ensures) (c .if1 .taken))
 
 returns-2 : tie.Need-returns-2
-returns-2 c = rw (c .before .enum-told2 .given .1) (c .seen-text2 .ensures)
-
-returns-3 : tie.Need-returns-3
-returns-3 c = rw (c .before .enum-told3 .given .1) (c .seen-text3 .ensures)
-
-returns-4 : tie.Need-returns-4
-returns-4 c = rw (c .enum-told4 .given .1)
-
-returns-5 : tie.Need-returns-5
-returns-5 c = rw (c .enum-told5 .given .1)
-
-returns-6 : tie.Need-returns-6
-returns-6 c = rw (c .enum-told6 .given .1)
-
-returns-7 : tie.Need-returns-7
-returns-7 c = rw (c .enum-told7 .given .1)
+returns-2 c =
+    let row = c .before .before .before in
+    rw (several-told (row .before .before .args .kind) (row .row-of .ensures) (c .before .if1 .left), ← row .row-of .ensures .offset) (c .seen-text .ensures)
 
 pub text-packets-spec : {M : Type 1} → statement M
 text-packets-spec =
     tie.close
     (tie.spec
-    (λ c. search needs) (λ c κs. search needs) (λ c. search needs) (λ c κs. search needs)
-    (λ c. search needs) (λ c κs. search needs) (λ c. search needs) (λ c. search needs)
-    (λ c. search needs) (λ c. search needs) returns returns-2 returns-3 returns-4 returns-5
-    returns-6 returns-7)
+    (λ c κs. search needs) returns (λ c κs. search needs) returns-2)

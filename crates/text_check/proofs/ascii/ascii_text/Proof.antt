@@ -5,12 +5,10 @@ use Rattle.text_check.specs.FastCheck.{asciiText}
 use Rattle.text_check.proofs.ascii.ascii_text.Statement.{statement}
 use Rattle.text_check.proofs.ascii.ascii_text.Tie as tie
 
-returns : tie.Need-returns
-unfolding asciiText
-returns c = c .ascii-word .ensures ∙ rw (c .before .text-mask .ensures)
-
 pub ascii-text-spec : {M : Type 1} → statement M
+unfolding asciiText
 ascii-text-spec =
     tie.close
     (tie.spec
-    (λ c. search needs) (λ c. search needs) (λ c κs. search needs) (λ c κs. search needs) returns)
+    (λ c. search needs) (λ c. search needs) (λ c κs. search needs) (λ c κs. search needs)
+    (λ c. c .ascii-word .ensures ∙ rw (c .before .text-mask .ensures)))

@@ -5,16 +5,12 @@ use Rattle.text_check.specs.FastCheck.{stepKeepingZeros}
 use Rattle.text_check.proofs.bytes.step_keeping_zeros.Statement.{statement}
 use Rattle.text_check.proofs.bytes.step_keeping_zeros.Tie as tie
 
-returns : tie.Need-returns
-unfolding stepKeepingZeros
-returns c = (rw (eq-eqb _ _ (c .before .if1 .taken)) (c .table-step .ensures .0), search needs)
-
-returns-2 : tie.Need-returns-2
-unfolding stepKeepingZeros
-returns-2 c = (rw (ne-eqb _ _ (c .before .if1 .left)) (c .table-step2 .ensures .0), search needs)
-
 pub step-keeping-zeros-spec : {M : Type 1} → statement M
+unfolding stepKeepingZeros
 step-keeping-zeros-spec =
     tie.close
     (tie.spec
-    (λ c κs. search needs) returns (λ c κs. search needs) returns-2)
+    (λ c κs. search needs)
+    (λ c. (rw (eq-eqb _ _ (c .before .if1 .taken)) (c .table-step .ensures .0), search needs))
+    (λ c κs. search needs)
+    (λ c. (rw (ne-eqb _ _ (c .before .if1 .left)) (c .table-step2 .ensures .0), search needs)))

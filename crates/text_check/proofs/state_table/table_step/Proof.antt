@@ -4,12 +4,9 @@ use Rattle.text_check.specs.FastCheck.{tableStep}
 use Rattle.text_check.proofs.state_table.table_step.Statement.{statement}
 use Rattle.text_check.proofs.state_table.table_step.Tie as tie
 
-returns : tie.Need-returns
-unfolding tableStep
-returns c = (rw (c .next-states .ensures), search needs)
-
 pub table-step-spec : {M : Type 1} → statement M
+unfolding tableStep
 table-step-spec =
     tie.close
     (tie.spec
-    (λ c κs. search needs) (λ c. search needs) returns)
+    (λ c κs. search needs) (λ c. search needs) (λ c. (rw (c .next-states .ensures), search needs)))

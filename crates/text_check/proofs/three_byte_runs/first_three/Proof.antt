@@ -6,25 +6,13 @@ use borrow.Author.Needs.{needs}
 use Rattle.text_check.proofs.three_byte_runs.first_three.Statement.{statement}
 use Rattle.text_check.proofs.three_byte_runs.first_three.Tie as tie
 
-returns : tie.Need-returns
-unfolding firstThree octetOf
-returns c = rw (told (c .before .before .before .before .before .before .is-e0-to-ef .ensures) (c .before .before .before .before .before .if1 .taken), told (c .before .before .before .before .is-tail .ensures) (c .before .before .before .if2 .taken), told (c .before .before .is-tail2 .ensures) (c .before .if3 .taken)) (c .not-e0-or-ed .ensures)
-
-returns-2 : tie.Need-returns-2
-unfolding firstThree octetOf
-returns-2 c = rw (told (c .before .before .before .before .before .is-e0-to-ef .ensures) (c .before .before .before .before .if1 .taken), told (c .before .before .before .is-tail .ensures) (c .before .before .if2 .taken), told (c .before .is-tail2 .ensures) (c .if3 .left)) (c .if3 .left)
-
-returns-3 : tie.Need-returns-3
-unfolding firstThree octetOf
-returns-3 c = rw (told (c .before .before .before .is-e0-to-ef .ensures) (c .before .before .if1 .taken), told (c .before .is-tail .ensures) (c .if2 .left)) (c .if2 .left)
-
-returns-4 : tie.Need-returns-4
-unfolding firstThree octetOf
-returns-4 c = rw (told (c .before .is-e0-to-ef .ensures) (c .if1 .left)) (c .if1 .left)
-
 pub first-three-spec : {M : Type 1} → statement M
+unfolding firstThree octetOf
 first-three-spec =
     tie.close
     (tie.spec
     (λ c κs. search needs) (λ c κs. search needs) (λ c κs. search needs) (λ c κs. search needs)
-    returns returns-2 returns-3 returns-4)
+    (λ c. rw (told (c .before .before .before .before .before .before .is-e0-to-ef .ensures) (c .before .before .before .before .before .if1 .taken), told (c .before .before .before .before .is-tail .ensures) (c .before .before .before .if2 .taken), told (c .before .before .is-tail2 .ensures) (c .before .if3 .taken)) (c .not-e0-or-ed .ensures))
+    (λ c. rw (told (c .before .before .before .before .before .is-e0-to-ef .ensures) (c .before .before .before .before .if1 .taken), told (c .before .before .before .is-tail .ensures) (c .before .before .if2 .taken), told (c .before .is-tail2 .ensures) (c .if3 .left)) (c .if3 .left))
+    (λ c. rw (told (c .before .before .before .is-e0-to-ef .ensures) (c .before .before .if1 .taken), told (c .before .is-tail .ensures) (c .if2 .left)) (c .if2 .left))
+    (λ c. rw (told (c .before .is-e0-to-ef .ensures) (c .if1 .left)) (c .if1 .left)))

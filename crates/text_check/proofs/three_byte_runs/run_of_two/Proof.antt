@@ -7,38 +7,17 @@ use borrow.Author.Needs.{needs}
 use Rattle.text_check.proofs.three_byte_runs.run_of_two.Statement.{statement}
 use Rattle.text_check.proofs.three_byte_runs.run_of_two.Tie as tie
 
-returns : tie.Need-returns
-unfolding runOfTwo
-returns c = rw (eq-eqb (c .before .before .before .before .args .s) 0 (omega arith), told (c .before .before .simple-first .ensures) (c .before .if1 .taken)) (c .is-tail .ensures)
-
-returns-2 : tie.Need-returns-2
-unfolding runOfTwo
-returns-2 c = rw (eq-eqb (c .before .before .before .args .s) 0 (omega arith), told (c .before .simple-first .ensures) (c .if1 .left)) (c .if1 .left)
-
-returns-3 : tie.Need-returns-3
-unfolding runOfTwo
-returns-3 c = rw (ne-eqb (c .before .before .before .before .args .s) 0 (λ e. omega arith), eq-eqb (c .before .before .before .before .args .s) 6 (omega arith), told (c .before .before .is-tail2 .ensures) (c .before .if2 .taken)) (c .simple-first2 .ensures)
-
-returns-4 : tie.Need-returns-4
-unfolding runOfTwo
-returns-4 c = rw (ne-eqb (c .before .before .before .args .s) 0 (λ e. omega arith), eq-eqb (c .before .before .before .args .s) 6 (omega arith), told (c .before .is-tail2 .ensures) (c .if2 .left)) (c .if2 .left)
-
-returns-5 : tie.Need-returns-5
-unfolding runOfTwo
-returns-5 c = rw (ne-eqb (c .before .before .before .before .args .s) 0 (λ e. omega arith), ne-eqb (c .before .before .before .before .args .s) 6 (λ e. omega arith), eq-eqb (c .before .before .before .before .args .s) 12 (omega arith), told (c .before .before .is-tail3 .ensures) (c .before .if3 .taken)) (c .is-tail4 .ensures)
-
-returns-6 : tie.Need-returns-6
-unfolding runOfTwo
-returns-6 c = rw (ne-eqb (c .before .before .before .args .s) 0 (λ e. omega arith), ne-eqb (c .before .before .before .args .s) 6 (λ e. omega arith), eq-eqb (c .before .before .before .args .s) 12 (omega arith), told (c .before .is-tail3 .ensures) (c .if3 .left)) (c .if3 .left)
-
-returns-7 : tie.Need-returns-7
-unfolding runOfTwo
-returns-7 c = rw (ne-eqb (c .before .args .s) 0 (λ e. omega arith), ne-eqb (c .before .args .s) 6 (λ e. omega arith), ne-eqb (c .before .args .s) 12 (λ e. omega arith))
-
 pub run-of-two-spec : {M : Type 1} → statement M
+unfolding runOfTwo
 run-of-two-spec =
     tie.close
     (tie.spec
     (λ c κs. search needs) (λ c κs. search needs) (λ c κs. search needs) (λ c κs. search needs)
-    (λ c κs. search needs) (λ c κs. search needs) returns returns-2 returns-3 returns-4 returns-5
-    returns-6 returns-7)
+    (λ c κs. search needs) (λ c κs. search needs)
+    (λ c. rw (eq-eqb (c .before .before .before .before .args .s) 0 (omega arith), told (c .before .before .simple-first .ensures) (c .before .if1 .taken)) (c .is-tail .ensures))
+    (λ c. rw (eq-eqb (c .before .before .before .args .s) 0 (omega arith), told (c .before .simple-first .ensures) (c .if1 .left)) (c .if1 .left))
+    (λ c. rw (ne-eqb (c .before .before .before .before .args .s) 0 (λ e. omega arith), eq-eqb (c .before .before .before .before .args .s) 6 (omega arith), told (c .before .before .is-tail2 .ensures) (c .before .if2 .taken)) (c .simple-first2 .ensures))
+    (λ c. rw (ne-eqb (c .before .before .before .args .s) 0 (λ e. omega arith), eq-eqb (c .before .before .before .args .s) 6 (omega arith), told (c .before .is-tail2 .ensures) (c .if2 .left)) (c .if2 .left))
+    (λ c. rw (ne-eqb (c .before .before .before .before .args .s) 0 (λ e. omega arith), ne-eqb (c .before .before .before .before .args .s) 6 (λ e. omega arith), eq-eqb (c .before .before .before .before .args .s) 12 (omega arith), told (c .before .before .is-tail3 .ensures) (c .before .if3 .taken)) (c .is-tail4 .ensures))
+    (λ c. rw (ne-eqb (c .before .before .before .args .s) 0 (λ e. omega arith), ne-eqb (c .before .before .before .args .s) 6 (λ e. omega arith), eq-eqb (c .before .before .before .args .s) 12 (omega arith), told (c .before .is-tail3 .ensures) (c .if3 .left)) (c .if3 .left))
+    (λ c. rw (ne-eqb (c .before .args .s) 0 (λ e. omega arith), ne-eqb (c .before .args .s) 6 (λ e. omega arith), ne-eqb (c .before .args .s) 12 (λ e. omega arith))))

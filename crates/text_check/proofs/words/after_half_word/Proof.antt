@@ -6,19 +6,14 @@ use borrow.Author.Needs.{needs}
 use Rattle.text_check.proofs.words.after_half_word.Statement.{statement}
 use Rattle.text_check.proofs.words.after_half_word.Tie as tie
 
-returns : tie.Need-returns
-unfolding octetOf
-returns c = let h = c .if1 .taken in (zeros-stay _ _ _ (c .before .pre) (omega arith) (omega arith), c .before .pre)
-
 after-two-bytes-requires : tie.Need-after-two-bytes-requires
 after-two-bytes-requires c κs = c .before .pre
 
-returns-2 : tie.Need-returns-2
-unfolding octetOf
-returns-2 c = c .after-two-bytes .ensures
-
 pub after-half-word-spec : {M : Type 1} → statement M
+unfolding octetOf
 after-half-word-spec =
     tie.close
     (tie.spec
-    returns (λ c. search needs) (λ c. search needs) after-two-bytes-requires returns-2)
+    (λ c. let h = c .if1 .taken in (zeros-stay _ _ _ (c .before .pre) (omega arith) (omega arith), c .before .pre))
+    (λ c. search needs) (λ c. search needs) after-two-bytes-requires
+    (λ c. c .after-two-bytes .ensures))

@@ -1,7 +1,6 @@
 -- `function_block_name::set_function_block` meets its contract, by the laws of `Plans`, `Rows` and `Slots` of settings.
 use mathlib.Core.Path.{refl, sym, _∙_}
 use Rattle.kinds.specs.declared.kind.Kind.the-variants as K
-use Rattle.kinds.specs.Fields.{Text}
 use Rattle.settings.proofs.Slots.{facts}
 use Rattle.standard.proofs.Outcome.{said, said-as}
 use Rattle.text_settings.proofs.Plans.{each-refused, each-large, each-done}
@@ -15,10 +14,10 @@ unfolding facts
 set-function-block-spec =
     tie.close
     (tie.spec
-    (λ c κs. search needs) (λ c κs. c .before .row-of .ensures .status) (λ c. search needs)
-    (λ c. search needs) (λ c κs. search needs) (λ c. search needs)
-    (λ c. said-as (set-each K.FunctionBlockName _ Text.function-block-name 3 8 8 _ refl refl _ refl) (said (each-large _ _ _ _ _ (sym (rw (c .before .before .before .before .before .before .before .row-of .ensures .status) at (c .before .before .before .before .before .find-text-target .ensures)) ∙ c .before .before .before .packets .given .1) (sym (c .before .too-large .ensures) ∙ c .if1 .taken))))
+    (λ c κs. search needs) (λ c κs. search needs) (λ c. search needs) (λ c. search needs)
     (λ c κs. search needs) (λ c. search needs)
-    (λ c. said-as (set-each K.FunctionBlockName _ Text.function-block-name 3 8 8 _ refl refl _ refl) (said (each-refused _ _ _ _ _ (sym (rw (c .before .before .before .before .before .row-of .ensures .status) at (c .before .before .before .find-text-target .ensures)) ∙ c .before .refusal .given .1))))
+    (λ c. said-as (set-each K.FunctionBlockName _ 0 _ refl refl refl refl) (said (each-large K.FunctionBlockName 0 _ _ (c .before .before .before .before .before .before .before .place-of .ensures) (sym (c .before .before .before .before .before .find-text-target .ensures) ∙ c .before .before .before .packets .given .1) (sym (c .before .too-large .ensures) ∙ c .if1 .taken))))
+    (λ c κs. search needs) (λ c. search needs)
+    (λ c. said-as (set-each K.FunctionBlockName _ 0 _ refl refl refl refl) (said (each-refused K.FunctionBlockName 0 _ _ (sym (c .before .before .before .find-text-target .ensures) ∙ c .before .refusal .given .1))))
     (λ c. search needs)
-    (λ c. said-as (set-each K.FunctionBlockName _ Text.function-block-name 3 8 8 _ refl refl _ refl) (rw (c .before .before .put-each .ensures) (said (each-done _ _ _ _ _ (sym (rw (c .before .before .before .before .before .before .before .before .before .before .before .row-of .ensures .status) at (c .before .before .before .before .before .before .before .before .before .find-text-target .ensures)) ∙ c .before .before .before .before .before .before .before .packets .given .1) (sym (c .before .before .before .before .before .too-large .ensures) ∙ c .before .before .before .before .if1 .left))))))
+    (λ c. said-as (set-each K.FunctionBlockName _ 0 _ refl refl refl refl) (rw (c .before .before .put-each .ensures) (said (each-done K.FunctionBlockName 0 _ _ (c .before .before .before .before .before .before .before .before .before .before .before .place-of .ensures) (sym (c .before .before .before .before .before .before .before .before .before .find-text-target .ensures) ∙ c .before .before .before .before .before .before .before .packets .given .1) (sym (c .before .before .before .before .before .too-large .ensures) ∙ c .before .before .before .before .if1 .left))))))

@@ -1,24 +1,46 @@
 -- `texts::set_text` meets its contract, by the laws of `Plans` and `Outcome` of standard.
 use mathlib.Core.Path.{sym, _∙_}
+use native.Mathlib.Omega.{arith}
+use Rattle.reading.proofs.TextRows.{offset-small}
+use Rattle.standard.proofs.Outcome.{said}
 use Rattle.text_settings.proofs.Plans.{text-refused, text-planless, text-done}
 use borrow.Author.Needs.{needs}
-use Rattle.standard.proofs.Outcome.{said}
 use Rattle.text_settings.proofs.texts.set_text.Statement.{statement}
 use Rattle.text_settings.proofs.texts.set_text.Tie as tie
 
+sub-plan-text : tie.Need-sub-plan-text
+sub-plan-text c =
+    let row = c .before .before .before .before .before in
+    let s = offset-small (row .before .before .before .args .kind) in
+    omega (arith, s, row .row-of .ensures .offset)
+
 returns : tie.Need-returns
-returns c = said (text-refused _ _ _ _ _ (sym (c .before .before .before .find-target-fast .ensures) ∙ c .before .refusal .given .1))
+returns c =
+    let target = c .before .before .before in
+    said (text-refused (target .before .before .before .before .before .args .kind) _ _ _ (sym (target .find-target-fast .ensures) ∙ c .before .refusal .given .1))
 
 returns-2 : tie.Need-returns-2
-returns-2 c = said (text-planless _ _ _ _ _ (sym (c .before .before .before .before .before .before .find-target-fast .ensures) ∙ c .before .before .before .before .enum-told .given .1) (sym (c .before .before .before .plan-text .ensures) ∙ c .before .refusal2 .given .1))
+returns-2 c =
+    let told = c .before .before .before .before .before in
+    let target = told .before .before in
+    let row = target .before .before in
+    let start = row .before .before .before in
+    said (text-planless (start .args .kind) _ _ _ (start .pre) (row .row-of .ensures .offset) (sym (target .find-target-fast .ensures) ∙ told .enum-told .given .1) (sym (c .before .before .before .plan-text .ensures) ∙ c .before .refusal2 .given .1))
 
 returns-3 : tie.Need-returns-3
-returns-3 c = rw (c .before .before .fill-text .ensures) (said (text-done _ _ _ _ _ (sym (c .before .before .before .before .before .before .before .before .before .before .find-target-fast .ensures) ∙ c .before .before .before .before .before .before .before .before .enum-told .given .1) (sym (c .before .before .before .before .before .before .before .plan-text .ensures) ∙ c .before .before .before .before .before .packets .given .1)))
+returns-3 c =
+    let plan = c .before .before .before .before .before .before .before in
+    let told = plan .before .before in
+    let target = told .before .before in
+    let row = target .before .before in
+    let start = row .before .before .before in
+    rw (c .before .before .fill-text .ensures) (said (text-done (start .args .kind) _ _ _ (start .pre) (row .row-of .ensures .offset) (sym (target .find-target-fast .ensures) ∙ told .enum-told .given .1) (sym (plan .plan-text .ensures) ∙ c .before .before .before .before .before .packets .given .1)))
 
 pub set-text-spec : {M : Type 1} → statement M
 set-text-spec =
     tie.close
     (tie.spec
-    (λ c κs. search needs) (λ c. search needs) (λ c. search needs) (λ c. search needs)
-    (λ c κs. search needs) (λ c. search needs) (λ c. search needs) (λ c κs. search needs)
-    (λ c. search needs) returns (λ c. search needs) returns-2 (λ c. search needs) returns-3)
+    (λ c κs. search needs) (λ c κs. search needs) (λ c. search needs) (λ c. search needs)
+    sub-plan-text (λ c κs. search needs) (λ c. search needs) (λ c. search needs)
+    (λ c κs. search needs) (λ c. search needs) returns (λ c. search needs) returns-2
+    (λ c. search needs) returns-3)

@@ -4,28 +4,17 @@ use Rattle.utf8.proofs.Ones.{length-law, no-length}
 use Rattle.utf8.proofs.first_byte.char_length.Statement.{statement}
 use Rattle.utf8.proofs.first_byte.char_length.Tie as tie
 
-returns : tie.Need-returns
-unfolding lengthByOnes
-returns c = length-law (c .before .args .b) 0 (c .before .fits .b .fits) (c .match .keys1)
-
-returns-2 : tie.Need-returns-2
-unfolding lengthByOnes
-returns-2 c = length-law (c .before .args .b) 2 (c .before .fits .b .fits) (c .match .keys2)
-
-returns-3 : tie.Need-returns-3
-unfolding lengthByOnes
-returns-3 c = length-law (c .before .args .b) 3 (c .before .fits .b .fits) (c .match .keys3)
-
-returns-4 : tie.Need-returns-4
-unfolding lengthByOnes
-returns-4 c = length-law (c .before .args .b) 4 (c .before .fits .b .fits) (c .match .keys4)
-
 returns-5 : tie.Need-returns-5
 returns-5 c =
     no-length (c .before .args .b) (c .before .fits .b .fits) (c .match .rest .0 .0 .0 .1) (c .match .rest .0 .0 .1) (c .match .rest .0 .1) (c .match .rest .1)
 
 pub char-length-spec : {M : Type 1} → statement M
+unfolding lengthByOnes
 char-length-spec =
     tie.close
     (tie.spec
-    returns returns-2 returns-3 returns-4 returns-5)
+    (λ c. length-law (c .before .args .b) 0 (c .before .fits .b .fits) (c .match .keys1))
+    (λ c. length-law (c .before .args .b) 2 (c .before .fits .b .fits) (c .match .keys2))
+    (λ c. length-law (c .before .args .b) 3 (c .before .fits .b .fits) (c .match .keys3))
+    (λ c. length-law (c .before .args .b) 4 (c .before .fits .b .fits) (c .match .keys4))
+    returns-5)

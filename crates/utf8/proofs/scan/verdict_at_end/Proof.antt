@@ -5,20 +5,12 @@ use borrow.Author.Needs.{needs}
 use Rattle.utf8.proofs.scan.verdict_at_end.Statement.{statement}
 use Rattle.utf8.proofs.scan.verdict_at_end.Tie as tie
 
-returns : tie.Need-returns
-unfolding verdictAtEnd
-returns c = rw (c .before .before .s2 .given .1, eq-eqb _ _ (c .if1 .taken))
-
-returns-2 : tie.Need-returns-2
-unfolding verdictAtEnd
-returns-2 c = rw (c .before .s .given .1)
-
-returns-3 : tie.Need-returns-3
-unfolding verdictAtEnd
-returns-3 c = rw (c .before .before .s2 .given .1, ne-eqb _ _ (c .if1 .left))
-
 pub verdict-at-end-spec : {M : Type 1} → statement M
+unfolding verdictAtEnd
 verdict-at-end-spec =
     tie.close
     (tie.spec
-    (λ c. search needs) (λ c. search needs) returns returns-2 returns-3)
+    (λ c. search needs) (λ c. search needs)
+    (λ c. rw (c .before .before .s2 .given .1, eq-eqb _ _ (c .if1 .taken)))
+    (λ c. rw (c .before .s .given .1))
+    (λ c. rw (c .before .before .s2 .given .1, ne-eqb _ _ (c .if1 .left))))

@@ -5,16 +5,10 @@ use borrow.Author.Needs.{needs}
 use Rattle.utf8.proofs.skipping_zeros.read_byte.Statement.{statement}
 use Rattle.utf8.proofs.skipping_zeros.read_byte.Tie as tie
 
-returns : tie.Need-returns
-unfolding afterRead
-returns c = rw (c .if1 .taken)
-
-returns-2 : tie.Need-returns-2
-unfolding afterRead
-returns-2 c = rw (ne-eqb _ _ (c .before .before .before .if1 .left), c .before .after-byte .ensures, c .wrapping-add-usize .ensures)
-
 pub read-byte-spec : {M : Type 1} → statement M
+unfolding afterRead
 read-byte-spec =
     tie.close
     (tie.spec
-    returns (λ c κs. search needs) (λ c κs. search needs) returns-2)
+    (λ c. rw (c .if1 .taken)) (λ c κs. search needs) (λ c κs. search needs)
+    (λ c. rw (ne-eqb _ _ (c .before .before .before .if1 .left), c .before .after-byte .ensures, c .wrapping-add-usize .ensures)))

@@ -7,14 +7,6 @@ use Rattle.records.proofs.Others.{other}
 use Rattle.records.proofs.message.Message.set_software_version.Statement.{statement}
 use Rattle.records.proofs.message.Message.set_software_version.Tie as tie
 
-returns : tie.Need-returns
-unfolding table
-returns c = c .no-such-field .ensures ∙ other K.DeviceIdentity _ _ refl (c .before .match .keys2)
-
-returns-2 : tie.Need-returns-2
-unfolding table
-returns-2 c = c .too-large .ensures ∙ rw (c .before .before .before .before .self .given .1) (too-large _ _ refl (sym (c .before .before .any-above-127 .ensures) ∙ c .before .if1 .taken))
-
 cast-t9 : tie.Need-cast-t9
 cast-t9 c = let h = are-septets _ _ _ _ (sym (c .before .any-above-127 .ensures) ∙ c .if1 .left) in search needs
 
@@ -27,14 +19,14 @@ cast-t11 c = let h = are-septets _ _ _ _ (sym (c .before .any-above-127 .ensures
 cast-t12 : tie.Need-cast-t12
 cast-t12 c = let h = are-septets _ _ _ _ (sym (c .before .any-above-127 .ensures) ∙ c .if1 .left) in search needs
 
-returns-3 : tie.Need-returns-3
-unfolding table
-returns-3 c = c .done .ensures ∙ rw (c .before .before .before .before .self .given .1) (made _ _ refl (sym (c .before .before .any-above-127 .ensures) ∙ c .before .if1 .left) refl)
-
 pub set-software-version-spec : {M : Type 1} → statement M
+unfolding table
 set-software-version-spec =
     tie.close
     (tie.spec
-    (λ c. search needs) (λ c κs. search needs) returns (λ c κs. search needs)
-    (λ c κs. search needs) returns-2 cast-t9 cast-t10 cast-t11 cast-t12 (λ c κs. search needs)
-    returns-3)
+    (λ c. search needs) (λ c κs. search needs)
+    (λ c. c .no-such-field .ensures ∙ other K.DeviceIdentity _ _ refl (c .before .match .keys2))
+    (λ c κs. search needs) (λ c κs. search needs)
+    (λ c. c .too-large .ensures ∙ rw (c .before .before .before .before .self .given .1) (too-large _ _ refl (sym (c .before .before .any-above-127 .ensures) ∙ c .before .if1 .taken)))
+    cast-t9 cast-t10 cast-t11 cast-t12 (λ c κs. search needs)
+    (λ c. c .done .ensures ∙ rw (c .before .before .before .before .self .given .1) (made _ _ refl (sym (c .before .before .any-above-127 .ensures) ∙ c .before .if1 .left) refl)))
