@@ -1,6 +1,9 @@
 // A flag, a number or a pair by its name, set on words; a flag or a number on a record.
 ghost use mathlib.Core.Path.{_≡_};
+ghost use lib.ListN.{length};
 ghost use Rattle.kinds.specs.Fields.{Setting};
+ghost use Rattle.kinds.specs.Layout.{layout};
+ghost use Rattle.table.specs.Places.{slotAt};
 ghost use Rattle.table.specs.Named.{flagNamed, numberNamed, pairNamed};
 ghost use Rattle.standard.specs.Words.{setOn};
 ghost use Rattle.c_structs.specs.Crossed.{answered};
@@ -51,16 +54,22 @@ pub(crate) fn pair_on(words: &mut [u32], pair: PairName, x: u32) -> Answered
 }
 
 // One number of a record. Fast path: numbers that are a record of the kind; `record_from` says why others are refused.
-fn one_in(record: Numbers, kind: Kind, slot: u8, x: u32) -> RecordAnswer
+fn one_in(
+    record: Numbers,
+    kind: Kind,
+    slot: usize,
+    slots: usize,
+    width: usize,
+    x: u32,
+) -> RecordAnswer
+    requires { ⌜ (slots ≡ length (layout kind .fields)) × (width ≡ slotAt (layout kind .fields) slot .span) ⌝ }
     ensures { λ r. ⌜ r ≡ oneIn kind slot x «record» ⌝ }
 {
     if is_record_of(kind, record) {
-        let place = place_of(kind, slot as usize);
-        if too_large(place.2, x) {
+        if too_large(width, x) {
             return refused_record(Refusal::NumberTooLarge, record);
         }
-        let row = row_of(kind);
-        return of_numbers(with_number(record, row.slots, slot as usize, x));
+        return of_numbers(with_number(record, slots, slot, x));
     }
     match record_from(record) {
         FromNumbers::Message(_) => refused_record(Refusal::NoSuchField, record),
@@ -68,12 +77,16 @@ fn one_in(record: Numbers, kind: Kind, slot: u8, x: u32) -> RecordAnswer
     }
 }
 
+// Row and place are looked up here, where the compiler knows the name.
 pub(crate) fn flag_in(record: Numbers, flag: FlagName, on: bool) -> RecordAnswer
     ensures { λ r. ⌜ r ≡ setIn (λ m. Setting.flag (flagNamed flag) on) «record» ⌝ }
 {
     let at = flag_at(flag);
     let kind = at.0;
-    one_in(record, kind, at.1, on as u32)
+    let slot = at.1 as usize;
+    let row = row_of(kind);
+    let place = place_of(kind, slot);
+    one_in(record, kind, slot, row.slots, place.2, on as u32)
 }
 
 pub(crate) fn number_in(record: Numbers, number: NumberName, x: u32) -> RecordAnswer
@@ -81,5 +94,8 @@ pub(crate) fn number_in(record: Numbers, number: NumberName, x: u32) -> RecordAn
 {
     let at = number_at(number);
     let kind = at.0;
-    one_in(record, kind, at.1, x)
+    let slot = at.1 as usize;
+    let row = row_of(kind);
+    let place = place_of(kind, slot);
+    one_in(record, kind, slot, row.slots, place.2, x)
 }

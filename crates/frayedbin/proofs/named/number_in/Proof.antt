@@ -9,5 +9,6 @@ pub number-in-spec : {M : Type 1} → statement M
 number-in-spec =
     tie.close
     (tie.spec
-    (λ c κs. search needs) (λ c κs. search needs)
-    (λ c. c .one-in .ensures ∙ number-set (c .before .before .args .number) (c .before .before .args .x) _ (c .before .number-at .ensures)))
+    (λ c κs. search needs) (λ c. search needs) (λ c κs. search needs) (λ c κs. search needs)
+    (λ c κs. search needs)
+    (λ c. c .one-in .ensures ∙ number-set (c .before .before .before .before .before .args .number) (c .before .before .before .before .before .args .x) _ (c .before .before .before .before .number-at .ensures)))
