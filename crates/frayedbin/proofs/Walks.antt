@@ -19,5 +19,5 @@ module _ (ws : List ℕ) (pos : ℕ) {a : Walked} (walk : a ≡ walkOf (take (le
   pub case-crossed : {b : Walked} → a ≡ b → r ≡ walkCrossed b → r ≡ walkCrossed (walkOf ws pos)
   case-crossed e q = q ∙ ap walkCrossed (sym e ∙ rw (take-all (length ws - 0) ws (omega arith)) at walk)
 
-  pub message-crossed : {m : Message} {next : WordNumber} {n : Numbers} → a ≡ W.Message m next → n ≡ asNumbers m → r ≡ foundCrossed n (next .0) → r ≡ walkCrossed (walkOf ws pos)
-  message-crossed {next = next} e c q = case-crossed e (q ∙ ap (λ (x : Numbers). foundCrossed x (next .0)) c)
+  pub message-crossed : {m k : Message} {next : WordNumber} {n : Numbers} → a ≡ W.Message m next → m ≡ k → n ≡ asNumbers k → r ≡ foundCrossed n (next .0) → r ≡ walkCrossed (walkOf ws pos)
+  message-crossed {next = next} e is c q = case-crossed e (q ∙ ap (λ (x : Numbers). foundCrossed x (next .0)) (c ∙ ap asNumbers (sym is)))

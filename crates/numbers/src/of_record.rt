@@ -35,7 +35,7 @@ fn of_kind(kind: Kind, packets: usize, ns: [u32; 9]) -> Numbers
     }
 }
 
-fn of_endpoint_discovery(e: EndpointDiscovery) -> Numbers
+pub fn of_endpoint_discovery(e: EndpointDiscovery) -> Numbers
     ensures { λ r. ⌜ r ≡ asNumbers (M.EndpointDiscovery e) ⌝ }
 {
     let ns = [
@@ -52,7 +52,7 @@ fn of_endpoint_discovery(e: EndpointDiscovery) -> Numbers
     of_kind(Kind::EndpointDiscovery, 1, ns)
 }
 
-fn of_endpoint_info(e: EndpointInfo) -> Numbers
+pub fn of_endpoint_info(e: EndpointInfo) -> Numbers
     ensures { λ r. ⌜ r ≡ asNumbers (M.EndpointInfo e) ⌝ }
 {
     let ns = [
@@ -69,7 +69,7 @@ fn of_endpoint_info(e: EndpointInfo) -> Numbers
     of_kind(Kind::EndpointInfo, 1, ns)
 }
 
-fn of_device_identity(e: DeviceIdentity) -> Numbers
+pub fn of_device_identity(e: DeviceIdentity) -> Numbers
     ensures { λ r. ⌜ r ≡ asNumbers (M.DeviceIdentity e) ⌝ }
 {
     let ns = [
@@ -86,7 +86,7 @@ fn of_device_identity(e: DeviceIdentity) -> Numbers
     of_kind(Kind::DeviceIdentity, 1, ns)
 }
 
-fn of_function_block_info(e: FunctionBlockInfo) -> Numbers
+pub fn of_function_block_info(e: FunctionBlockInfo) -> Numbers
     ensures { λ r. ⌜ r ≡ asNumbers (M.FunctionBlockInfo e) ⌝ }
 {
     let hint = e.ui_hint;
@@ -107,7 +107,7 @@ fn of_function_block_info(e: FunctionBlockInfo) -> Numbers
 }
 
 // A text kind: its packets, and the number of a block name.
-fn of_text(kind: Kind, packets: usize, number: u32) -> Numbers
+pub fn of_text(kind: Kind, packets: usize, number: u32) -> Numbers
     ensures { λ r. ⌜ r ≡ oneNumber (layout kind .status) packets number ⌝ }
 {
     of_kind(kind, packets, [number, 0, 0, 0, 0, 0, 0, 0, 0])

@@ -2,6 +2,10 @@
 use Prim.Native.Nat.{_<_}
 use mathlib.Core.Path.{ap, _∙_}
 use native.Mathlib.Omega.{arith}
+use Rattle.laws.specs.Lists.{each}
+use Rattle.kinds.specs.Fields.{same, decided}
+use Rattle.kinds.specs.Layout.{layout}
+use Rattle.records.specs.Records.{fieldsIn, lookup, firstPart}
 use Rattle.c_structs.specs.Crossed.{walkCrossed}
 use Rattle.walking.proofs.Other.{size-found}
 use Rattle.frayedbin.proofs.Walks.{case-crossed, message-crossed}
@@ -10,6 +14,7 @@ use Rattle.frayedbin.proofs.calls.frayedbin_walk.Statement.{statement}
 use Rattle.frayedbin.proofs.calls.frayedbin_walk.Tie as tie
 
 pub frayedbin-walk-spec : {M : Type 1} → statement M
+unfolding each layout firstPart fieldsIn lookup same decided
 frayedbin-walk-spec =
     tie.close
     (tie.spec
@@ -27,5 +32,18 @@ frayedbin-walk-spec =
     (λ c. case-crossed _ _ (c .before .before .before .before .walk .ensures) (c .before .before .ump-type .given .1) (c .of-other2 .ensures))
     (λ c. search needs) (λ c κs. search needs)
     (λ c. case-crossed _ _ (c .before .before .before .before .walk .ensures) (c .before .before .refusal .given .1) (c .of-walk-refused .ensures))
+    (λ c. search needs)
     (λ c. search needs) (λ c κs. search needs) (λ c κs. search needs)
-    (λ c. message-crossed _ _ (c .before .before .before .before .before .walk .ensures) (c .before .before .before .message .given .1) (c .before .numbers-of .ensures) (c .of-found .ensures)))
+    (λ c. message-crossed _ _ (c .before .before .before .before .before .before .before .before .walk .ensures) (c .before .before .before .before .before .before .message .given .1) (c .before .before .before .message2 .given .1) (c .before .of-endpoint-discovery .ensures) (c .of-found .ensures))
+    (λ c. search needs) (λ c κs. search needs) (λ c κs. search needs)
+    (λ c. message-crossed _ _ (c .before .before .before .before .before .before .before .before .walk .ensures) (c .before .before .before .before .before .before .message .given .1) (c .before .before .before .message3 .given .1) (c .before .of-endpoint-info .ensures) (c .of-found2 .ensures))
+    (λ c. search needs) (λ c κs. search needs) (λ c κs. search needs)
+    (λ c. message-crossed _ _ (c .before .before .before .before .before .before .before .before .walk .ensures) (c .before .before .before .before .before .before .message .given .1) (c .before .before .before .message4 .given .1) (c .before .of-device-identity .ensures) (c .of-found3 .ensures))
+    (λ c. search needs) (λ c κs. search needs) (λ c κs. search needs)
+    (λ c. message-crossed _ _ (c .before .before .before .before .before .before .before .before .walk .ensures) (c .before .before .before .before .before .before .message .given .1) (c .before .before .before .message5 .given .1) (c .before .of-text .ensures) (c .of-found4 .ensures))
+    (λ c. search needs) (λ c κs. search needs) (λ c κs. search needs)
+    (λ c. message-crossed _ _ (c .before .before .before .before .before .before .before .before .walk .ensures) (c .before .before .before .before .before .before .message .given .1) (c .before .before .before .message6 .given .1) (c .before .of-text2 .ensures) (c .of-found5 .ensures))
+    (λ c. search needs) (λ c κs. search needs) (λ c κs. search needs)
+    (λ c. message-crossed _ _ (c .before .before .before .before .before .before .before .before .walk .ensures) (c .before .before .before .before .before .before .message .given .1) (c .before .before .before .message7 .given .1) (c .before .of-function-block-info .ensures) (c .of-found6 .ensures))
+    (λ c. search needs) (λ c. search needs) (λ c κs. search needs) (λ c κs. search needs)
+    (λ c. message-crossed _ _ (c .before .before .before .before .before .before .before .before .walk .ensures) (c .before .before .before .before .before .before .message .given .1) (c .before .before .before .message8 .given .1) (c .before .of-text3 .ensures) (c .of-found7 .ensures)))
