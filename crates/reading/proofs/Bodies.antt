@@ -1,14 +1,15 @@
--- What reading's body is at a kind: its verdict on a text, which is good if the kind has none, then the record. Closed by passing the refusals that cannot come.
+-- What reading's body is at a kind: the record where it has no choice and no text; and text by its verdict. Closed by passing the refusals that cannot come.
 use Prim.Native.Nat.{ℕ, _-_}
-use mathlib.Core.Path.{_≡_, refl, sym, ap, _∙_}
+use mathlib.Core.Path.{_≡_, refl, ap, _∙_}
 use mathlib.Core.Bool.{Bool, true, false, not}
 use mathlib.Core.List.{List}
 use native.Mathlib.Nat.{mul-zero}
 use native.Mathlib.Omega.{arith}
 use lib.ListN.{length, take}
 use lib.Seq.{take-all}
+use Rattle.laws.specs.Pick.{pick}
 use Rattle.laws.specs.Lists.{tabulate, nonzero}
-use Rattle.laws.proofs.Pick.{true-false, split, here, past}
+use Rattle.laws.proofs.Pick.{past}
 use Rattle.utf8.specs.Utf8.{firstBad}
 use Rattle.utf8.specs.declared.Utf8.{Utf8}
 use Rattle.utf8.specs.declared.Utf8.the-variants.{Good, BadAt}
@@ -24,27 +25,41 @@ use Rattle.standard.specs.Reading.{messageAt, textAt, isBad, readBody}
 use Rattle.reading.specs.Bodies.{offsetOf}
 use Rattle.reading.proofs.TextRows.{choiceless, port-passed, direction-passed, fixed-capacity, text-capacity, text-free}
 
-pub bad-not-good : (u : Utf8) → isBad u ≡ not (isGood u)
+bad-not-good : (u : Utf8) → isBad u ≡ not (isGood u)
 bad-not-good Good = refl
 bad-not-good (BadAt n) = refl
 
--- ---- the verdict on its text
-module _ (k : Kind) (ws : List ℕ) where
-  pub no-text : hasText (layout k .body) ≡ false → isBad (firstBad (textAt k ws)) ≡ false
-  unfolding allBytes tabulate nonzero firstBad
-  no-text e = rw (fixed-capacity (layout k .body) e, mul-zero)
+-- ---- a kind without text
+pub no-text : (k : Kind) (ws : List ℕ) → hasText (layout k .body) ≡ false → isBad (firstBad (textAt k ws)) ≡ false
+unfolding allBytes tabulate nonzero firstBad
+no-text k ws e = rw (fixed-capacity (layout k .body) e, mul-zero)
 
-  -- what is told of the slice of all words is told of the words
-  pub all-told : {b : Bool} → hasText (layout k .body) ≡ true → b ≡ isGood (firstBad (textOf (take (length ws - 0) ws) (14 - offsetOf k) (packetsOf (take (length ws - 0) ws)))) → not b ≡ isBad (firstBad (textAt k ws))
-  all-told h e = ap not (rw (take-all (length ws - 0) ws (omega arith), text-capacity k h) at e) ∙ sym (bad-not-good (firstBad (textAt k ws)))
-
--- ---- by the verdict
-pub good-body : (k : Kind) {m : Kind} (ws : List ℕ) {r : Message} → m ≡ k → choiceless k ≡ true → isBad (firstBad (textAt m ws)) ≡ false → r ≡ messageAt k ws → R.Message r ≡ readBody m ws
+pub plain-body : (k : Kind) {m : Kind} (ws : List ℕ) {r : Message} → m ≡ k → choiceless k ≡ true → hasText (layout k .body) ≡ false → r ≡ messageAt k ws → R.Message r ≡ readBody m ws
 unfolding readBody
-good-body k ws q f e r = rw q (past _ (port-passed k ws f) (past _ (direction-passed k ws f) (past _ (rw q at e) (ap R.Message r))))
+plain-body k ws q f e r = rw q (past _ (port-passed k ws f) (past _ (direction-passed k ws f) (past _ (no-text k ws e) (ap R.Message r))))
 
-pub bad-body : (k : Kind) (ws : List ℕ) → isBad (firstBad (textAt k ws)) ≡ true → R.Refused NotUtf8 ≡ readBody k ws
-unfolding readBody
-bad-body k ws e = split (hasText (layout k .body))
-    (λ t. let f = text-free k t in past _ (port-passed k ws f) (past _ (direction-passed k ws f) (here _ e refl)))
-    (λ t. true-false (sym e ∙ no-text k ws t))
+-- ---- a kind with text: by the verdict on that
+module _ (k : Kind) (ws : List ℕ) (has : hasText (layout k .body) ≡ true) where
+  verdict : (b : Bool) → isGood (firstBad (textAt k ws)) ≡ b → pick (not b) (R.Refused NotUtf8) (R.Message (messageAt k ws)) ≡ readBody k ws
+  unfolding readBody
+  verdict b e = past _ (port-passed k ws (text-free k has)) (past _ (direction-passed k ws (text-free k has)) (rw (bad-not-good (firstBad (textAt k ws)), e)))
+
+  pub good-body : isGood (firstBad (textAt k ws)) ≡ true → R.Message (messageAt k ws) ≡ readBody k ws
+  good-body e = verdict true e
+
+  bad-body : isGood (firstBad (textAt k ws)) ≡ false → R.Refused NotUtf8 ≡ readBody k ws
+  bad-body e = verdict false e
+
+-- what is told of the slice of all words, for a kind that the code has found
+module _ (k : Kind) {m : Kind} (ws : List ℕ) {offset : ℕ} (q : m ≡ k) (has : hasText (layout k .body) ≡ true) (o : offset ≡ offsetOf m) where
+  abbrev told : Bool
+  told = isGood (firstBad (textOf (take (length ws - 0) ws) (14 - offset) (packetsOf (take (length ws - 0) ws))))
+
+  all-told : {b : Bool} → told ≡ b → isGood (firstBad (textAt k ws)) ≡ b
+  all-told e = rw (take-all (length ws - 0) ws (omega arith), o, q, text-capacity k has) at e
+
+  pub good-told : {r : Message} → told ≡ true → r ≡ messageAt k ws → R.Message r ≡ readBody m ws
+  good-told e r = rw q (ap R.Message r ∙ good-body k ws has (all-told e))
+
+  pub bad-told : told ≡ false → R.Refused NotUtf8 ≡ readBody m ws
+  bad-told e = rw q (bad-body k ws has (all-told e))

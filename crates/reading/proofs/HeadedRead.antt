@@ -1,7 +1,7 @@
 -- What the pass found is what the rules give: a message of its kind. Closed by the fields that like heads share, and text that is good.
 use Prim.Native.Nat.{ℕ, _+_, _*_, _%_, _≤_, _<_}
 use mathlib.Core.Path.{_≡_, refl, sym, ap, _∙_}
-use mathlib.Core.Bool.{true, false, not}
+use mathlib.Core.Bool.{true, false}
 use mathlib.Core.List.{List}
 use native.Mathlib.Omega.{arith}
 use native.Mathlib.Decide.{decLt}
@@ -25,8 +25,8 @@ use Rattle.standard.proofs.Rules.{ruled-kept}
 use Rattle.reading.specs.Rules.{breaksOf}
 use Rattle.reading.specs.Bodies.{offsetOf, fieldsRead, rulesRead}
 use Rattle.reading.specs.OnePass.{textBits, headBits, headedPackets, goodText, seenText, textPackets, headsRight}
-use Rattle.reading.proofs.TextRows.{text-most, text-capacity, text-free}
-use Rattle.reading.proofs.Bodies.{bad-not-good, good-body}
+use Rattle.reading.proofs.TextRows.{text-most, text-capacity}
+use Rattle.reading.proofs.Bodies.{good-body}
 use Rattle.reading.proofs.Passes.{Headed, headed-seen, headed-room, headed-front}
 use Rattle.reading.proofs.Repeats.{late-rule, none-late}
 
@@ -139,7 +139,7 @@ module _ (k : Kind) (ws : List ℕ) (n : ℕ) (e : textPackets k ws ≡ n) (some
   body : R.Message (messageAt k front) ≡ readBody k front
   body =
       let g : isGood (firstBad (textAt k front)) ≡ true = rw (count, ← text-capacity k (texted .0)) (good .1) in
-      good-body k front refl (text-free k (texted .0)) (bad-not-good (firstBad (textAt k front)) ∙ ap not g) refl
+      good-body k front (texted .0) g
 
   -- A MESSAGE OF TEXT THAT THE PASS SAW IS READ FROM ITS OWN WORDS
   pub text-read : kindOf (statusOf (headAt ws 0)) ≡ Is k → R.Message (messageAt k front) ≡ readOf front

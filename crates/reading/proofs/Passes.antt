@@ -16,10 +16,10 @@ use Rattle.text.specs.Octets.{dueFormat}
 use Rattle.text.specs.Bytes.{textOf}
 use Rattle.text_check.specs.FastCheck.{isGood}
 use Rattle.kinds.specs.declared.kind.Kind.{Kind}
-use Rattle.kinds.specs.Layout.{mostOf}
+use Rattle.kinds.specs.Layout.{layout, mostOf, hasText}
 use Rattle.standard.specs.Heads.{typeOf, formatOf, streamType, headAt, packetsOf}
 use Rattle.reading.specs.Bodies.{offsetOf}
-use Rattle.reading.specs.OnePass.{headBits, likeFirst, endsAt, headedFrom, headedPackets, seenText, headsRight}
+use Rattle.reading.specs.OnePass.{headBits, likeFirst, endsAt, headedFrom, headedPackets, seenText, textPackets, headsRight}
 
 -- ---- the turns of the loop
 module _ (ws : List ℕ) (offset p : ℕ) (more : p < 64) where
@@ -169,11 +169,14 @@ module _ (k : Kind) (ws : List ℕ) (n : ℕ) where
   unfolding headsRight
   too-many h = here _ (lt-ltb (mostOf k) n h) refl
 
-  pub not-many : (m : ℕ) → n ≤ mostOf k → m ≡ headedPackets ws (offsetOf k) → eqb m n ≡ headsRight k ws n
+  pub not-many : (m : ℕ) {offset : ℕ} → n ≤ mostOf k → offset ≡ offsetOf k → m ≡ headedPackets ws offset → eqb m n ≡ headsRight k ws n
   unfolding headsRight
-  not-many m h e = past _ (le-ltb (mostOf k) n h) (rw e)
+  not-many m h o e = past _ (le-ltb (mostOf k) n h) (rw (e, o))
 
 -- ---- their text
+pub text-seen : (k : Kind) (ws : List ℕ) {offset : ℕ} → hasText (layout k .body) ≡ true → offset ≡ offsetOf k → seenText ws offset ≡ textPackets k ws
+text-seen k ws h o = rw (h, o)
+
 module _ (ws : List ℕ) (offset n : ℕ) (e : headedPackets ws offset ≡ n) where
   pub headed-words : n * 4 ≡ length (take (n * 4) ws)
   headed-words = sym (length-take-le (n * 4) ws (headed-within ws offset n e .0))

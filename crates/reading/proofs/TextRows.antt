@@ -5,7 +5,7 @@ use mathlib.Core.Bool.{Bool, true, false}
 use mathlib.Core.List.{List, [], _∷_}
 use native.Mathlib.Omega.{arith}
 use lib.ListN.{getD}
-use lib.Dec.{ltb, eqb}
+use lib.Dec.{ltb, leb, eqb}
 use borrow.Author.Tests.{lt-ltb, le-ltb, leb-true, eqb-true}
 use Rattle.laws.specs.Pick.{pick, both}
 use Rattle.laws.specs.Lists.{map}
@@ -53,11 +53,6 @@ unfolding rightBody
 left fixed t r e = true-false (sym e)
 left (texts x from) t r e = let l = leb-true 2 from (both-left _ _ (both-left _ _ r)) in omega arith
 
-small : (b : Body) (t : List (Slot Part)) → rightBody b t ≡ true → offsetIn b < 14
-unfolding rightBody
-small fixed t r = omega arith
-small (texts x from) t r = let l = leb-true from 15 (both-right _ _ (both-left _ _ r)) in omega arith
-
 -- ---- a kind, by the row that the code was given
 module _ (k : Kind) {r : Row} (s : RowIs (tableRow k) r) where
   pub one-told : r .«most_packets» ≡ 1 → hasText (layout k .body) ≡ false
@@ -67,8 +62,15 @@ module _ (k : Kind) {r : Row} (s : RowIs (tableRow k) r) where
   several-told n = several-texts (layout k .body) (λ e. n (s .most ∙ e))
 
 -- ---- a kind
-pub offset-small : (k : Kind) → offsetOf k < 14
-offset-small k = small (layout k .body) (layout k .fields) (row-right k .body)
+offset-tested : (k : Kind) → leb (offsetOf k) 1 ≡ true
+unfolding everyKind layout both
+offset-tested k = at-kind (λ j. leb (offsetOf j) 1) refl k
+
+pub offset-few : (k : Kind) → offsetOf k ≤ 1
+offset-few k = leb-true _ _ (offset-tested k)
+
+pub offset-one : (k : Kind) {n : ℕ} → n ≡ offsetOf k → (n ≡ 0 → ⊥) → 1 ≡ offsetOf k
+offset-one k e h = let l = offset-few k in omega arith
 
 pub text-capacity : (k : Kind) → hasText (layout k .body) ≡ true → 14 - offsetOf k ≡ capacityOf k
 text-capacity k e = left (layout k .body) (layout k .fields) (row-right k .body) e

@@ -2,10 +2,9 @@
 ghost use mathlib.Core.Path.{_≡_};
 ghost use Prim.Native.Nat.{_≤_};
 ghost use lib.ListN.{length};
-ghost use Rattle.utf8.specs.Utf8.{firstBad};
 ghost use Rattle.kinds.specs.Layout.{mostOf};
 ghost use Rattle.standard.specs.Heads.{packetsOf};
-ghost use Rattle.standard.specs.Reading.{textAt, isBad, readBody, readKind, readOf};
+ghost use Rattle.standard.specs.Reading.{readBody, readKind, readOf};
 ghost use Rattle.reading.specs.Bodies.{fieldsRead, rulesRead};
 ghost use Rattle.reading.specs.OnePass.{headsRight};
 use crate::device_identity;
@@ -16,6 +15,7 @@ use crate::function_block_info;
 use crate::function_block_name;
 use crate::heads::status_of;
 use crate::one_pass::headed_packets;
+use crate::one_pass::offset_of;
 use crate::product_instance_id;
 use crate::rules::Rule;
 use crate::rules::first_broken;
@@ -36,33 +36,34 @@ pub fn most_packets(kind: Kind) -> usize
     row.most_packets
 }
 
-// Whether there is text that is not UTF-8. `&words[0..]` makes the compiler pass the slice in registers.
-fn has_bad_text(kind: Kind, words: &[u32]) -> bool
-    ensures { λ r. ⌜ r ≡ isBad (firstBad (textAt kind (now (words .entry)))) ⌝ }
-{
-    let row = row_of(kind);
-    if row.most_packets == 1 {
-        return false;
-    }
-    !good_text(&words[0..], row.text_offset)
-}
-
-// Refusals 9, 10 and 11, else the message. No kind has both a choice and text.
+// Refusals 9, 10 and 11, else the message. `&words[0..]` makes the compiler pass the slice in registers.
 fn read_body(kind: Kind, words: &[u32]) -> Read
     requires { ⌜ 4 ≤ length (now words) ⌝ }
     ensures { λ r. ⌜ r ≡ readBody kind (now (words .entry)) ⌝ }
 {
-    if has_bad_text(kind, words) {
-        return Read::Refused(Refusal::NotUtf8);
-    }
     match kind {
         Kind::EndpointDiscovery => Read::Message(endpoint_discovery::message(words)),
         Kind::EndpointInfo => Read::Message(endpoint_info::message(words)),
         Kind::DeviceIdentity => Read::Message(device_identity::message(words)),
-        Kind::EndpointName => Read::Message(endpoint_name::message(words)),
-        Kind::ProductInstanceId => Read::Message(product_instance_id::message(words)),
+        Kind::EndpointName => {
+            if good_text(&words[0..], offset_of(kind)) {
+                return Read::Message(endpoint_name::message(words));
+            }
+            Read::Refused(Refusal::NotUtf8)
+        }
+        Kind::ProductInstanceId => {
+            if good_text(&words[0..], offset_of(kind)) {
+                return Read::Message(product_instance_id::message(words));
+            }
+            Read::Refused(Refusal::NotUtf8)
+        }
         Kind::FunctionBlockInfo => function_block_info::read(words),
-        Kind::FunctionBlockName => Read::Message(function_block_name::message(words)),
+        Kind::FunctionBlockName => {
+            if good_text(&words[0..], offset_of(kind)) {
+                return Read::Message(function_block_name::message(words));
+            }
+            Read::Refused(Refusal::NotUtf8)
+        }
     }
 }
 
@@ -71,8 +72,7 @@ pub(crate) fn read_fields(kind: Kind, words: &[u32]) -> Read
     requires { ⌜ (4 ≤ length (now words)) × (packetsOf (now words) ≤ mostOf kind) ⌝ }
     ensures { λ r. ⌜ r ≡ fieldsRead kind (now (words .entry)) ⌝ }
 {
-    let row = row_of(kind);
-    if 0 < row.text_offset {
+    if 0 < offset_of(kind) {
         let b = first_broken(Rule::FunctionBlock, words);
         if b.0 < words.len() / 4 {
             return Read::Refused(Refusal::BlockNumberDiffers(b));
@@ -102,15 +102,17 @@ fn read_kind(kind: Kind, words: &[u32]) -> Read
     read_fields(kind, words)
 }
 
-// Whether one pass over the heads rules out refusals 4 to 8, for a message of this kind in n packets.
+// Whether one pass over the heads rules out refusals 4 to 8, for a message of this kind in n packets. The compiler makes a loop for each offset.
 fn heads_right(kind: Kind, words: &[u32], n: usize) -> bool
     ensures { λ r. ⌜ r ≡ headsRight kind (now (words .entry)) n ⌝ }
 {
-    let row = row_of(kind);
-    if row.most_packets < n {
+    if most_packets(kind) < n {
         return false;
     }
-    headed_packets(words, row.text_offset).0 == n
+    if offset_of(kind) == 0 {
+        return headed_packets(words, 0).0 == n;
+    }
+    headed_packets(words, 1).0 == n
 }
 
 // Refusals 4 to 11, one rule after the other, else the message.

@@ -2,6 +2,7 @@
 ghost use mathlib.Core.Path.{_≡_};
 ghost use Prim.Native.Nat.{_<_};
 ghost use Rattle.counts.specs.Counts.{packet};
+ghost use Rattle.reading.specs.Bodies.{offsetOf};
 ghost use Rattle.reading.specs.OnePass.{textBits, headBits, likeFirst, endsAt, headedPackets, seenText, textPackets};
 use crate::heads::format_of;
 use crate::heads::type_of;
@@ -10,6 +11,14 @@ use kinds::kind::Kind;
 use table::rows::row_of;
 use text::packets::due_format;
 use text_check::good_text;
+
+// How many octets after octet 2 the text of a kind starts: 0 or 1. `% 2` lets the compiler know.
+pub fn offset_of(kind: Kind) -> usize
+    ensures { λ r. ⌜ r ≡ offsetOf kind ⌝ }
+{
+    let row = row_of(kind);
+    row.text_offset % 2
+}
 
 // The low bits of a packet's first word that may be text.
 fn text_bits(offset: usize) -> u32
@@ -88,7 +97,7 @@ fn seen_text(words: &[u32], offset: usize) -> PacketNumber
     PacketNumber(0)
 }
 
-// The same for a kind; 0 for a kind without text.
+// The same for a kind; 0 for a kind without text. The compiler makes a loop for each offset.
 pub fn text_packets(kind: Kind, words: &[u32]) -> PacketNumber
     ensures { λ r. ⌜ r ≡ packet (textPackets kind (now (words .entry))) ⌝ }
 {
@@ -96,5 +105,8 @@ pub fn text_packets(kind: Kind, words: &[u32]) -> PacketNumber
     if row.most_packets == 1 {
         return PacketNumber(0);
     }
-    seen_text(words, row.text_offset)
+    if offset_of(kind) == 0 {
+        return seen_text(words, 0);
+    }
+    seen_text(words, 1)
 }

@@ -3,6 +3,7 @@ use Prim.Native.Nat.{ℕ, _+_, _^_, _<_, _≤_}
 use mathlib.Core.Path.{_≡_, refl, sym, ap, _∙_, fun-ext}
 use mathlib.Core.Bool.{Bool, true, false}
 use mathlib.Core.List.{List, [], _∷_}
+use native.Mathlib.Omega.{arith}
 use lib.ListN.{length}
 use lib.Dec.{ltb}
 use borrow.Author.Tests.{ltb-true, ltb-false, leb-true}
@@ -28,7 +29,7 @@ use Rattle.buffer.specs.Acts.{putEach, formatted, fillText}
 use Rattle.buffer.proofs.Puts.{each-put, text-filled}
 use Rattle.table.specs.Places.{slotAt}
 use Rattle.reading.specs.Bodies.{offsetOf}
-use Rattle.reading.proofs.TextRows.{text-capacity, offset-small}
+use Rattle.reading.proofs.TextRows.{text-capacity, offset-few}
 use Rattle.settings.specs.declared.target.Target.{Target}
 use Rattle.settings.specs.declared.target.Target.the-variants as T
 use Rattle.settings.specs.Target.{targetOf, settled}
@@ -81,7 +82,7 @@ module _ (k : Kind) (t : Text) (head : ℕ) (bytes ws : List ℕ) (f : textFacts
   unfolding textFacts
   text-act n l =
       text-acts (layout k .body) (layout k) t n bytes ws (ap (λ (x : Facts). x .is) f)
-      ∙ rw (fun-ext h, text-filled bytes (offsetOf k) head (needed (capacityOf k) (length bytes)) ws (offset-small k) l, text-capacity k (ap (λ (x : Facts). x .has) f))
+      ∙ rw (fun-ext h, text-filled bytes (offsetOf k) head (needed (capacityOf k) (length bytes)) ws (let s = offset-few k in omega arith) l, text-capacity k (ap (λ (x : Facts). x .has) f))
 
   own-text : (n : ℕ) → Own k n (Setting.text t bytes) ws → setOn (Setting.text t bytes) ws ≡ carried (planOf bytes (capacityOf k) (packetsOf ws)) (λ m. fillText bytes (offsetOf k) head m ws) ws
   unfolding planOf roomOf

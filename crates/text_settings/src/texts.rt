@@ -7,9 +7,9 @@ use buffer::texts::fill_text;
 use counts::PacketNumber;
 use kinds::kind::Kind;
 use kinds::refusal::Refusal;
+use reading::one_pass::offset_of;
 use records::answers::Answer;
 use settings::target::Target;
-use table::rows::row_of;
 use text::packets::packets_needed;
 use text_check::check_utf8;
 use utf8::Utf8;
@@ -51,15 +51,15 @@ pub(crate) fn set_text(words: &mut [u32], kind: Kind, head: u32, text: &[u8]) ->
     ensures answer { λ r. ⌜ r ≡ textOn kind head (now (text .entry)) (now (words .entry)) .answer ⌝ }
     ensures buffer { λ r. ⌜ now (words .exit) ≡ textOn kind head (now (text .entry)) (now (words .entry)) .words ⌝ }
 {
-    let row = row_of(kind);
+    let offset = offset_of(kind);
     match find_target_fast(words, kind, head) {
         Target::Refused(refusal) => Answer::Refused(refusal),
         Target::Packets(_) => {
             let room = PacketNumber(words.len() / 4);
-            match plan_text(text, 14 - row.text_offset, room) {
+            match plan_text(text, 14 - offset, room) {
                 Plan::Refused(refusal) => Answer::Refused(refusal),
                 Plan::Needs(packets) => {
-                    fill_text(words, text, row.text_offset, head, packets);
+                    fill_text(words, text, offset, head, packets);
                     Answer::Done
                 }
             }

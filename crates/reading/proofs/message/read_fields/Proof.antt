@@ -13,8 +13,8 @@ read-fields-spec =
     tie.close
     (tie.spec
     (λ c κs. search needs) (λ c κs. search needs)
-    (λ c. let row = c .before .before .before .before .before in let start = row .before .before in ruled-here _ _ _ _ _ (c .before .before .first-broken .ensures ∙ late-first (start .args .kind) (start .args .words .now) (rw (row .row-of .ensures .offset) at (c .before .before .before .if1 .taken))) (c .if2 .taken))
+    (λ c. ruled-here _ _ _ _ _ (c .before .before .first-broken .ensures ∙ late-first (c .before .before .before .before .before .before .args .kind) (c .before .before .before .before .before .before .args .words .now) (rw (c .before .before .before .before .offset-of .ensures) at (c .before .before .before .if1 .taken))) (c .if2 .taken))
     (λ c κs. search needs)
-    (λ c. let row = c .before .before .before .before .before .before in let start = row .before .before in ruled-past _ _ _ _ _ (c .before .before .before .first-broken .ensures ∙ late-first (start .args .kind) (start .args .words .now) (rw (row .row-of .ensures .offset) at (c .before .before .before .before .if1 .taken))) (c .before .if2 .left) (c .read-body .ensures))
+    (λ c. ruled-past _ _ _ _ _ (c .before .before .before .first-broken .ensures ∙ late-first (c .before .before .before .before .before .before .before .args .kind) (c .before .before .before .before .before .before .before .args .words .now) (rw (c .before .before .before .before .before .offset-of .ensures) at (c .before .before .before .before .if1 .taken))) (c .before .if2 .left) (c .read-body .ensures))
     (λ c κs. search needs)
-    (λ c. let row = c .before .before .before in let start = row .before .before in c .read-body2 .ensures ∙ none-late (start .args .kind) (start .args .words .now) (rw (row .row-of .ensures .offset) at (c .before .if1 .left)) (start .pre .1)))
+    (λ c. c .read-body2 .ensures ∙ none-late (c .before .before .before .before .args .kind) (c .before .before .before .before .args .words .now) (rw (c .before .before .offset-of .ensures) at (c .before .if1 .left)) (c .before .before .before .before .pre .1)))

@@ -1,7 +1,7 @@
 -- `texts::set_text` meets its contract, by the laws of `Plans` and `Outcome` of standard.
 use mathlib.Core.Path.{sym, _∙_}
 use native.Mathlib.Omega.{arith}
-use Rattle.reading.proofs.TextRows.{offset-small}
+use Rattle.reading.proofs.TextRows.{offset-few}
 use Rattle.standard.proofs.Outcome.{said}
 use Rattle.text_settings.proofs.Plans.{text-refused, text-planless, text-done}
 use borrow.Author.Needs.{needs}
@@ -10,9 +10,9 @@ use Rattle.text_settings.proofs.texts.set_text.Tie as tie
 
 sub-plan-text : tie.Need-sub-plan-text
 sub-plan-text c =
-    let row = c .before .before .before .before .before in
-    let s = offset-small (row .before .before .before .args .kind) in
-    omega (arith, s, row .row-of .ensures .offset)
+    let row = c .before .before .before .before in
+    let s = offset-few (row .before .before .before .args .kind) in
+    omega (arith, s, row .offset-of .ensures)
 
 returns : tie.Need-returns
 returns c =
@@ -21,20 +21,20 @@ returns c =
 
 returns-2 : tie.Need-returns-2
 returns-2 c =
-    let told = c .before .before .before .before .before in
+    let told = c .before .before .before .before in
     let target = told .before .before in
     let row = target .before .before in
     let start = row .before .before .before in
-    said (text-planless (start .args .kind) _ _ _ (start .pre) (row .row-of .ensures .offset) (sym (target .find-target-fast .ensures) ∙ told .enum-told .given .1) (sym (c .before .before .before .plan-text .ensures) ∙ c .before .refusal2 .given .1))
+    said (text-planless (start .args .kind) _ _ _ (start .pre) (row .offset-of .ensures) (sym (target .find-target-fast .ensures) ∙ told .enum-told .given .1) (sym (c .before .before .before .plan-text .ensures) ∙ c .before .refusal2 .given .1))
 
 returns-3 : tie.Need-returns-3
 returns-3 c =
     let plan = c .before .before .before .before .before .before .before in
-    let told = plan .before .before in
+    let told = plan .before in
     let target = told .before .before in
     let row = target .before .before in
     let start = row .before .before .before in
-    rw (c .before .before .fill-text .ensures) (said (text-done (start .args .kind) _ _ _ (start .pre) (row .row-of .ensures .offset) (sym (target .find-target-fast .ensures) ∙ told .enum-told .given .1) (sym (plan .plan-text .ensures) ∙ c .before .before .before .before .before .packets .given .1)))
+    rw (c .before .before .fill-text .ensures) (said (text-done (start .args .kind) _ _ _ (start .pre) (row .offset-of .ensures) (sym (target .find-target-fast .ensures) ∙ told .enum-told .given .1) (sym (plan .plan-text .ensures) ∙ c .before .before .before .before .before .packets .given .1)))
 
 pub set-text-spec : {M : Type 1} → statement M
 set-text-spec =
