@@ -1,68 +1,74 @@
-//! The seven kinds, and the named choices of a function block.
+//! The kinds, and the named choices of a function block.
 
 use crate::Refusal;
 
-/// One of the seven kinds of message.
-///
-/// ```
-/// use frayedbin::Kind;
-///
-/// assert_eq!(Kind::FunctionBlockName.status(), 0x12);
-/// assert_eq!(Kind::try_from(0x12), Ok(Kind::FunctionBlockName));
-/// assert_eq!(Kind::try_from(0x05).unwrap_err().number(), 5);
-/// ```
-#[derive(Clone, Copy, Debug, PartialEq, Eq, Hash)]
-#[non_exhaustive]
-pub enum Kind {
-    /// Status 0x00: [`EndpointDiscovery`](crate::EndpointDiscovery).
-    EndpointDiscovery,
-    /// Status 0x01: [`EndpointInfo`](crate::EndpointInfo).
-    EndpointInfo,
-    /// Status 0x02: [`DeviceIdentity`](crate::DeviceIdentity).
-    DeviceIdentity,
-    /// Status 0x03: [`EndpointName`](crate::EndpointName).
-    EndpointName,
-    /// Status 0x04: [`ProductInstanceId`](crate::ProductInstanceId).
-    ProductInstanceId,
-    /// Status 0x11: [`FunctionBlockInfo`](crate::FunctionBlockInfo).
-    FunctionBlockInfo,
-    /// Status 0x12: [`FunctionBlockName`](crate::FunctionBlockName).
-    FunctionBlockName,
-}
-
-impl Kind {
-    /// The kind's status.
-    #[must_use]
-    pub fn status(self) -> u16 {
-        match self {
-            Kind::EndpointDiscovery => 0x00,
-            Kind::EndpointInfo => 0x01,
-            Kind::DeviceIdentity => 0x02,
-            Kind::EndpointName => 0x03,
-            Kind::ProductInstanceId => 0x04,
-            Kind::FunctionBlockInfo => 0x11,
-            Kind::FunctionBlockName => 0x12,
+/// Gives every kind to a macro: its name, its status, and how many numbers its record has.
+macro_rules! each_kind {
+    ($macro:ident) => {
+        $macro! {
+            EndpointDiscovery 0x00 7,
+            EndpointInfo 0x01 8,
+            DeviceIdentity 0x02 9,
+            EndpointName 0x03 0,
+            ProductInstanceId 0x04 0,
+            FunctionBlockInfo 0x11 9,
+            FunctionBlockName 0x12 1,
         }
-    }
+    };
 }
+pub(crate) use each_kind;
 
-/// The kind of a status, or refusal 5.
-impl TryFrom<u16> for Kind {
-    type Error = Refusal;
+macro_rules! kind_enum {
+    ($($name:ident $status:literal $numbers:literal,)*) => {
+        /// The kind of a message.
+        ///
+        /// ```
+        /// use frayedbin::Kind;
+        ///
+        /// assert_eq!(Kind::FunctionBlockName.status(), 0x12);
+        /// assert_eq!(Kind::try_from(0x12), Ok(Kind::FunctionBlockName));
+        /// assert_eq!(Kind::try_from(0x05).unwrap_err().number(), 5);
+        /// ```
+        #[derive(Clone, Copy, Debug, PartialEq, Eq, Hash)]
+        #[non_exhaustive]
+        pub enum Kind {
+            $(
+                #[doc = concat!("Status ", stringify!($status), ": [`", stringify!($name), "`](crate::", stringify!($name), ").")]
+                $name,
+            )*
+        }
 
-    fn try_from(status: u16) -> Result<Kind, Refusal> {
-        Ok(match status {
-            0x00 => Kind::EndpointDiscovery,
-            0x01 => Kind::EndpointInfo,
-            0x02 => Kind::DeviceIdentity,
-            0x03 => Kind::EndpointName,
-            0x04 => Kind::ProductInstanceId,
-            0x11 => Kind::FunctionBlockInfo,
-            0x12 => Kind::FunctionBlockName,
-            _ => return Err(Refusal::UnknownStatus),
-        })
-    }
+        impl Kind {
+            /// The kind's status.
+            #[must_use]
+            pub fn status(self) -> u16 {
+                match self {
+                    $(Kind::$name => $status,)*
+                }
+            }
+
+            /// How many numbers the kind's record has.
+            pub(crate) fn numbers(self) -> usize {
+                match self {
+                    $(Kind::$name => $numbers,)*
+                }
+            }
+        }
+
+        /// The kind of a status, or refusal 5.
+        impl TryFrom<u16> for Kind {
+            type Error = Refusal;
+
+            fn try_from(status: u16) -> Result<Kind, Refusal> {
+                match status {
+                    $($status => Ok(Kind::$name),)*
+                    _ => Err(Refusal::UnknownStatus),
+                }
+            }
+        }
+    };
 }
+each_kind!(kind_enum);
 
 /// What users may take a function block for.
 #[derive(Clone, Copy, Debug, Default, PartialEq, Eq, Hash)]

@@ -92,14 +92,7 @@ impl Record {
     /// choice is its code, a manufacturer is three numbers and a software version four.
     #[must_use]
     pub fn numbers(&self) -> &[u32] {
-        let count = match self.kind {
-            Kind::EndpointDiscovery => 7,
-            Kind::EndpointInfo => 8,
-            Kind::DeviceIdentity | Kind::FunctionBlockInfo => 9,
-            Kind::EndpointName | Kind::ProductInstanceId => 0,
-            Kind::FunctionBlockName => 1,
-        };
-        &self.numbers.number[..count]
+        &self.numbers.number[..self.kind.numbers()]
     }
 
     /// Writes the record as a fresh message with its fields. A text kind is refusal 13, and a

@@ -1,74 +1,66 @@
-//! Messages of any of the seven kinds, and a stream of them.
+//! Messages of any kind, and a stream of them.
 
+use crate::kind::each_kind;
 use crate::message::Message;
 use crate::sys::{self, FOUND_END, FOUND_OTHER};
-use crate::{
-    DeviceIdentity, EndpointDiscovery, EndpointInfo, EndpointName, FunctionBlockInfo,
-    FunctionBlockName, Kind, ProductInstanceId, Record, Refusal,
-};
+use crate::{Kind, Record, Refusal};
 use std::fmt;
 use std::iter::FusedIterator;
 
-/// A message of one of the seven kinds.
-///
-/// ```
-/// use frayedbin::UmpStream;
-///
-/// let words = [0xF012_0541, 0, 0, 0];
-/// match UmpStream::read(words)? {
-///     UmpStream::FunctionBlockName(name) => {
-///         assert_eq!(name.function_block(), 5);
-///         assert_eq!(name.name(), "A");
-///     }
-///     other => panic!("{other:?}"),
-/// }
-/// # Ok::<(), frayedbin::Refusal>(())
-/// ```
-#[derive(Clone, Copy)]
-#[non_exhaustive]
-pub enum UmpStream<B> {
-    /// Status 0x00.
-    EndpointDiscovery(EndpointDiscovery<B>),
-    /// Status 0x01.
-    EndpointInfo(EndpointInfo<B>),
-    /// Status 0x02.
-    DeviceIdentity(DeviceIdentity<B>),
-    /// Status 0x03.
-    EndpointName(EndpointName<B>),
-    /// Status 0x04.
-    ProductInstanceId(ProductInstanceId<B>),
-    /// Status 0x11.
-    FunctionBlockInfo(FunctionBlockInfo<B>),
-    /// Status 0x12.
-    FunctionBlockName(FunctionBlockName<B>),
+macro_rules! stream_enum {
+    ($($name:ident $status:literal $numbers:literal,)*) => {
+        /// A message of any kind.
+        ///
+        /// ```
+        /// use frayedbin::UmpStream;
+        ///
+        /// let words = [0xF012_0541, 0, 0, 0];
+        /// match UmpStream::read(words)? {
+        ///     UmpStream::FunctionBlockName(name) => {
+        ///         assert_eq!(name.function_block(), 5);
+        ///         assert_eq!(name.name(), "A");
+        ///     }
+        ///     other => panic!("{other:?}"),
+        /// }
+        /// # Ok::<(), frayedbin::Refusal>(())
+        /// ```
+        #[derive(Clone, Copy)]
+        #[non_exhaustive]
+        pub enum UmpStream<B> {
+            $(
+                #[doc = concat!("Status ", stringify!($status), ".")]
+                $name(crate::$name<B>),
+            )*
+        }
+
+        impl<B> UmpStream<B> {
+            /// The typed message of a record's kind.
+            fn of(message: Message<B>) -> UmpStream<B> {
+                match message.record.kind() {
+                    $(Kind::$name => UmpStream::$name(crate::$name(message)),)*
+                }
+            }
+
+            fn message(&self) -> &Message<B> {
+                match self {
+                    $(UmpStream::$name(m) => &m.0,)*
+                }
+            }
+        }
+
+        /// As the typed message: its name says the kind.
+        impl<B: AsRef<[u32]>> fmt::Debug for UmpStream<B> {
+            fn fmt(&self, f: &mut fmt::Formatter<'_>) -> fmt::Result {
+                match self {
+                    $(UmpStream::$name(m) => m.fmt(f),)*
+                }
+            }
+        }
+    };
 }
+each_kind!(stream_enum);
 
 impl<B> UmpStream<B> {
-    /// The typed message of a record's kind.
-    fn of(message: Message<B>) -> UmpStream<B> {
-        match message.record.kind() {
-            Kind::EndpointDiscovery => UmpStream::EndpointDiscovery(EndpointDiscovery(message)),
-            Kind::EndpointInfo => UmpStream::EndpointInfo(EndpointInfo(message)),
-            Kind::DeviceIdentity => UmpStream::DeviceIdentity(DeviceIdentity(message)),
-            Kind::EndpointName => UmpStream::EndpointName(EndpointName(message)),
-            Kind::ProductInstanceId => UmpStream::ProductInstanceId(ProductInstanceId(message)),
-            Kind::FunctionBlockInfo => UmpStream::FunctionBlockInfo(FunctionBlockInfo(message)),
-            Kind::FunctionBlockName => UmpStream::FunctionBlockName(FunctionBlockName(message)),
-        }
-    }
-
-    fn message(&self) -> &Message<B> {
-        match self {
-            UmpStream::EndpointDiscovery(m) => &m.0,
-            UmpStream::EndpointInfo(m) => &m.0,
-            UmpStream::DeviceIdentity(m) => &m.0,
-            UmpStream::EndpointName(m) => &m.0,
-            UmpStream::ProductInstanceId(m) => &m.0,
-            UmpStream::FunctionBlockInfo(m) => &m.0,
-            UmpStream::FunctionBlockName(m) => &m.0,
-        }
-    }
-
     /// What the message says, as a record, with its kind.
     pub fn record(&self) -> Record {
         self.message().record
@@ -107,21 +99,6 @@ impl<A: AsRef<[u32]>, B: AsRef<[u32]>> PartialEq<UmpStream<B>> for UmpStream<A> 
 
 impl<B: AsRef<[u32]>> Eq for UmpStream<B> {}
 
-/// As the typed message: its name says the kind.
-impl<B: AsRef<[u32]>> fmt::Debug for UmpStream<B> {
-    fn fmt(&self, f: &mut fmt::Formatter<'_>) -> fmt::Result {
-        match self {
-            UmpStream::EndpointDiscovery(m) => m.fmt(f),
-            UmpStream::EndpointInfo(m) => m.fmt(f),
-            UmpStream::DeviceIdentity(m) => m.fmt(f),
-            UmpStream::EndpointName(m) => m.fmt(f),
-            UmpStream::ProductInstanceId(m) => m.fmt(f),
-            UmpStream::FunctionBlockInfo(m) => m.fmt(f),
-            UmpStream::FunctionBlockName(m) => m.fmt(f),
-        }
-    }
-}
-
 /// What stands at a word position of a stream.
 #[derive(Clone, Copy, Debug, PartialEq, Eq)]
 pub enum Found<'a> {
@@ -132,7 +109,7 @@ pub enum Found<'a> {
         /// The words that messages of this type take.
         words: &'a [u32],
     },
-    /// A message of one of the seven kinds.
+    /// A message of one of the kinds.
     Message(UmpStream<&'a [u32]>),
     /// What is neither, and why.
     Refused(Refusal),
