@@ -76,31 +76,6 @@ extern "C" {
         text: *const u8,
         text_length: usize,
     ) -> Done;
-    fn frayedbin_endpoint_discovery_set_ump_version_major(words: *mut u32, length: usize, v: u32) -> Done;
-    fn frayedbin_endpoint_discovery_set_ump_version_minor(words: *mut u32, length: usize, v: u32) -> Done;
-    fn frayedbin_endpoint_discovery_set_request_endpoint_info(words: *mut u32, length: usize, v: bool) -> Done;
-    fn frayedbin_endpoint_discovery_set_request_device_identity(words: *mut u32, length: usize, v: bool) -> Done;
-    fn frayedbin_endpoint_discovery_set_request_endpoint_name(words: *mut u32, length: usize, v: bool) -> Done;
-    fn frayedbin_endpoint_discovery_set_request_product_instance_id(words: *mut u32, length: usize, v: bool) -> Done;
-    fn frayedbin_endpoint_discovery_set_request_stream_configuration(words: *mut u32, length: usize, v: bool) -> Done;
-    fn frayedbin_endpoint_info_set_ump_version_major(words: *mut u32, length: usize, v: u32) -> Done;
-    fn frayedbin_endpoint_info_set_ump_version_minor(words: *mut u32, length: usize, v: u32) -> Done;
-    fn frayedbin_endpoint_info_set_static_function_blocks(words: *mut u32, length: usize, v: bool) -> Done;
-    fn frayedbin_endpoint_info_set_supports_midi2_protocol(words: *mut u32, length: usize, v: bool) -> Done;
-    fn frayedbin_endpoint_info_set_supports_midi1_protocol(words: *mut u32, length: usize, v: bool) -> Done;
-    fn frayedbin_endpoint_info_set_supports_receiving_jr_timestamps(words: *mut u32, length: usize, v: bool) -> Done;
-    fn frayedbin_endpoint_info_set_supports_sending_jr_timestamps(words: *mut u32, length: usize, v: bool) -> Done;
-    fn frayedbin_endpoint_info_set_number_of_function_blocks(words: *mut u32, length: usize, v: u32) -> Done;
-    fn frayedbin_function_block_info_set_active(words: *mut u32, length: usize, v: bool) -> Done;
-    fn frayedbin_function_block_info_set_function_block_number(words: *mut u32, length: usize, v: u32) -> Done;
-    fn frayedbin_function_block_info_set_ui_hint(words: *mut u32, length: usize, v: u32) -> Done;
-    fn frayedbin_function_block_info_set_midi1_port(words: *mut u32, length: usize, v: u32) -> Done;
-    fn frayedbin_function_block_info_set_direction(words: *mut u32, length: usize, v: u32) -> Done;
-    fn frayedbin_function_block_info_set_first_group(words: *mut u32, length: usize, v: u32) -> Done;
-    fn frayedbin_function_block_info_set_number_of_groups_spanned(words: *mut u32, length: usize, v: u32) -> Done;
-    fn frayedbin_function_block_info_set_midi_ci_version(words: *mut u32, length: usize, v: u32) -> Done;
-    fn frayedbin_function_block_info_set_max_number_of_midi_ci_streams(words: *mut u32, length: usize, v: u32) -> Done;
-    fn frayedbin_function_block_name_set_function_block(words: *mut u32, length: usize, v: u32) -> Done;
     fn frayedbin_device_identity_set_device_manufacturer(
         words: *mut u32,
         length: usize,
@@ -108,8 +83,6 @@ extern "C" {
         b: u32,
         c: u32,
     ) -> Done;
-    fn frayedbin_device_identity_set_device_family(words: *mut u32, length: usize, v: u32) -> Done;
-    fn frayedbin_device_identity_set_device_family_model_number(words: *mut u32, length: usize, v: u32) -> Done;
     fn frayedbin_device_identity_set_software_version(
         words: *mut u32,
         length: usize,
@@ -244,42 +217,67 @@ impl Side for Ours {
     }
 }
 
-fn is_flag(status: u16, field: usize) -> bool {
-    matches!((status, field), (0x00, 2..=6) | (0x01, 2..=6) | (0x11, 0))
+/// Each setting of one value, by the kind's status and the field's number there: its declaration, and its call. A flag is a bool
+/// in the call, and other numbers cannot be handed over.
+macro_rules! settings_of_one_value {
+    ($(($status:literal, $field:literal) $name:ident($type:ident);)+) => {
+        extern "C" {
+            $(fn $name(words: *mut u32, length: usize, v: $type) -> Done;)+
+        }
+
+        fn is_flag(status: u16, field: usize) -> bool {
+            match (status, field) {
+                $(($status, $field) => stringify!($type) == "bool",)+
+                _ => false,
+            }
+        }
+
+        unsafe fn set_one(status: u16, field: usize, v: u32, at: *mut u32, length: usize) -> Option<Done> {
+            match (status, field) {
+                $(($status, $field) => Some($name(at, length, settings_of_one_value!(@handed v as $type))),)+
+                _ => None,
+            }
+        }
+    };
+    (@handed $v:ident as bool) => { $v == 1 };
+    (@handed $v:ident as u32) => { $v };
+}
+
+settings_of_one_value! {
+    (0x00, 0) frayedbin_endpoint_discovery_set_ump_version_major(u32);
+    (0x00, 1) frayedbin_endpoint_discovery_set_ump_version_minor(u32);
+    (0x00, 2) frayedbin_endpoint_discovery_set_request_endpoint_info(bool);
+    (0x00, 3) frayedbin_endpoint_discovery_set_request_device_identity(bool);
+    (0x00, 4) frayedbin_endpoint_discovery_set_request_endpoint_name(bool);
+    (0x00, 5) frayedbin_endpoint_discovery_set_request_product_instance_id(bool);
+    (0x00, 6) frayedbin_endpoint_discovery_set_request_stream_configuration(bool);
+    (0x01, 0) frayedbin_endpoint_info_set_ump_version_major(u32);
+    (0x01, 1) frayedbin_endpoint_info_set_ump_version_minor(u32);
+    (0x01, 2) frayedbin_endpoint_info_set_static_function_blocks(bool);
+    (0x01, 3) frayedbin_endpoint_info_set_supports_midi2_protocol(bool);
+    (0x01, 4) frayedbin_endpoint_info_set_supports_midi1_protocol(bool);
+    (0x01, 5) frayedbin_endpoint_info_set_supports_receiving_jr_timestamps(bool);
+    (0x01, 6) frayedbin_endpoint_info_set_supports_sending_jr_timestamps(bool);
+    (0x01, 7) frayedbin_endpoint_info_set_number_of_function_blocks(u32);
+    (0x02, 1) frayedbin_device_identity_set_device_family(u32);
+    (0x02, 2) frayedbin_device_identity_set_device_family_model_number(u32);
+    (0x11, 0) frayedbin_function_block_info_set_active(bool);
+    (0x11, 1) frayedbin_function_block_info_set_function_block_number(u32);
+    (0x11, 2) frayedbin_function_block_info_set_ui_hint(u32);
+    (0x11, 3) frayedbin_function_block_info_set_midi1_port(u32);
+    (0x11, 4) frayedbin_function_block_info_set_direction(u32);
+    (0x11, 5) frayedbin_function_block_info_set_first_group(u32);
+    (0x11, 6) frayedbin_function_block_info_set_number_of_groups_spanned(u32);
+    (0x11, 7) frayedbin_function_block_info_set_midi_ci_version(u32);
+    (0x11, 8) frayedbin_function_block_info_set_max_number_of_midi_ci_streams(u32);
+    (0x12, 0) frayedbin_function_block_name_set_function_block(u32);
 }
 
 /// The setting of a field, by kind and number.
 unsafe fn set(status: u16, field: usize, v: &[u32; 4], at: *mut u32, length: usize) -> Option<Done> {
-    Some(match (status, field) {
-        (0x00, 0) => frayedbin_endpoint_discovery_set_ump_version_major(at, length, v[0]),
-        (0x00, 1) => frayedbin_endpoint_discovery_set_ump_version_minor(at, length, v[0]),
-        (0x00, 2) => frayedbin_endpoint_discovery_set_request_endpoint_info(at, length, v[0] == 1),
-        (0x00, 3) => frayedbin_endpoint_discovery_set_request_device_identity(at, length, v[0] == 1),
-        (0x00, 4) => frayedbin_endpoint_discovery_set_request_endpoint_name(at, length, v[0] == 1),
-        (0x00, 5) => frayedbin_endpoint_discovery_set_request_product_instance_id(at, length, v[0] == 1),
-        (0x00, 6) => frayedbin_endpoint_discovery_set_request_stream_configuration(at, length, v[0] == 1),
-        (0x01, 0) => frayedbin_endpoint_info_set_ump_version_major(at, length, v[0]),
-        (0x01, 1) => frayedbin_endpoint_info_set_ump_version_minor(at, length, v[0]),
-        (0x01, 2) => frayedbin_endpoint_info_set_static_function_blocks(at, length, v[0] == 1),
-        (0x01, 3) => frayedbin_endpoint_info_set_supports_midi2_protocol(at, length, v[0] == 1),
-        (0x01, 4) => frayedbin_endpoint_info_set_supports_midi1_protocol(at, length, v[0] == 1),
-        (0x01, 5) => frayedbin_endpoint_info_set_supports_receiving_jr_timestamps(at, length, v[0] == 1),
-        (0x01, 6) => frayedbin_endpoint_info_set_supports_sending_jr_timestamps(at, length, v[0] == 1),
-        (0x01, 7) => frayedbin_endpoint_info_set_number_of_function_blocks(at, length, v[0]),
-        (0x11, 0) => frayedbin_function_block_info_set_active(at, length, v[0] == 1),
-        (0x11, 1) => frayedbin_function_block_info_set_function_block_number(at, length, v[0]),
-        (0x11, 2) => frayedbin_function_block_info_set_ui_hint(at, length, v[0]),
-        (0x11, 3) => frayedbin_function_block_info_set_midi1_port(at, length, v[0]),
-        (0x11, 4) => frayedbin_function_block_info_set_direction(at, length, v[0]),
-        (0x11, 5) => frayedbin_function_block_info_set_first_group(at, length, v[0]),
-        (0x11, 6) => frayedbin_function_block_info_set_number_of_groups_spanned(at, length, v[0]),
-        (0x11, 7) => frayedbin_function_block_info_set_midi_ci_version(at, length, v[0]),
-        (0x11, 8) => frayedbin_function_block_info_set_max_number_of_midi_ci_streams(at, length, v[0]),
-        (0x12, 0) => frayedbin_function_block_name_set_function_block(at, length, v[0]),
-        (0x02, 0) => frayedbin_device_identity_set_device_manufacturer(at, length, v[0], v[1], v[2]),
-        (0x02, 1) => frayedbin_device_identity_set_device_family(at, length, v[0]),
-        (0x02, 2) => frayedbin_device_identity_set_device_family_model_number(at, length, v[0]),
-        (0x02, 3) => frayedbin_device_identity_set_software_version(at, length, v[0], v[1], v[2], v[3]),
-        _ => return None,
-    })
+    match (status, field) {
+        (0x02, 0) => Some(frayedbin_device_identity_set_device_manufacturer(at, length, v[0], v[1], v[2])),
+        (0x02, 3) => Some(frayedbin_device_identity_set_software_version(at, length, v[0], v[1], v[2], v[3])),
+        _ => set_one(status, field, v[0], at, length),
+    }
 }

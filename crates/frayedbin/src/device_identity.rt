@@ -4,7 +4,7 @@ ghost use Rattle.kinds.specs.Fields.{Pair, Setting};
 ghost use Rattle.standard.specs.Words.{setOn};
 ghost use Rattle.c_structs.specs.Crossed.{answered};
 ghost use Rattle.frayedbin.specs.Calls.{setIn};
-use crate::named::pair_on;
+use crate::named;
 use c_structs::answers::Answered;
 use c_structs::answers::RecordAnswer;
 use c_structs::answers::of_answer;
@@ -37,7 +37,7 @@ pub extern "C" fn frayedbin_device_identity_set_device_family(
     ensures answer { λ r. ⌜ r ≡ answered (setOn (Setting.pair Pair.device-family family) (now (words .entry)) .answer) ⌝ }
     ensures buffer { λ r. ⌜ now (words .exit) ≡ setOn (Setting.pair Pair.device-family family) (now (words .entry)) .words ⌝ }
 {
-    pair_on(words, PairName::DeviceFamily, family)
+    named::pair_on(words, PairName::DeviceFamily, family)
 }
 
 #[no_mangle]
@@ -48,7 +48,7 @@ pub extern "C" fn frayedbin_device_identity_set_device_family_model_number(
     ensures answer { λ r. ⌜ r ≡ answered (setOn (Setting.pair Pair.device-family-model-number model) (now (words .entry)) .answer) ⌝ }
     ensures buffer { λ r. ⌜ now (words .exit) ≡ setOn (Setting.pair Pair.device-family-model-number model) (now (words .entry)) .words ⌝ }
 {
-    pair_on(words, PairName::DeviceFamilyModelNumber, model)
+    named::pair_on(words, PairName::DeviceFamilyModelNumber, model)
 }
 
 #[no_mangle]

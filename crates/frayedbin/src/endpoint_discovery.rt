@@ -4,9 +4,7 @@ ghost use Rattle.kinds.specs.Fields.{Flag, Number, Setting};
 ghost use Rattle.standard.specs.Words.{setOn};
 ghost use Rattle.c_structs.specs.Crossed.{answered};
 ghost use Rattle.frayedbin.specs.Calls.{setIn};
-use crate::named::flag_in;
-use crate::named::flag_on;
-use crate::named::number_on;
+use crate::named;
 use c_structs::answers::Answered;
 use c_structs::answers::RecordAnswer;
 use numbers::Numbers;
@@ -21,7 +19,7 @@ pub extern "C" fn frayedbin_endpoint_discovery_set_ump_version_major(
     ensures answer { λ r. ⌜ r ≡ answered (setOn (Setting.number Number.discovery-version-major version) (now (words .entry)) .answer) ⌝ }
     ensures buffer { λ r. ⌜ now (words .exit) ≡ setOn (Setting.number Number.discovery-version-major version) (now (words .entry)) .words ⌝ }
 {
-    number_on(words, NumberName::DiscoveryVersionMajor, version)
+    named::number_on(words, NumberName::DiscoveryVersionMajor, version)
 }
 
 #[no_mangle]
@@ -32,7 +30,7 @@ pub extern "C" fn frayedbin_endpoint_discovery_set_ump_version_minor(
     ensures answer { λ r. ⌜ r ≡ answered (setOn (Setting.number Number.discovery-version-minor version) (now (words .entry)) .answer) ⌝ }
     ensures buffer { λ r. ⌜ now (words .exit) ≡ setOn (Setting.number Number.discovery-version-minor version) (now (words .entry)) .words ⌝ }
 {
-    number_on(words, NumberName::DiscoveryVersionMinor, version)
+    named::number_on(words, NumberName::DiscoveryVersionMinor, version)
 }
 
 #[no_mangle]
@@ -43,7 +41,7 @@ pub extern "C" fn frayedbin_endpoint_discovery_set_request_endpoint_info(
     ensures answer { λ r. ⌜ r ≡ answered (setOn (Setting.flag Flag.request-endpoint-info on) (now (words .entry)) .answer) ⌝ }
     ensures buffer { λ r. ⌜ now (words .exit) ≡ setOn (Setting.flag Flag.request-endpoint-info on) (now (words .entry)) .words ⌝ }
 {
-    flag_on(words, FlagName::RequestEndpointInfo, on)
+    named::flag_on(words, FlagName::RequestEndpointInfo, on)
 }
 
 #[no_mangle]
@@ -54,7 +52,7 @@ pub extern "C" fn frayedbin_endpoint_discovery_set_request_device_identity(
     ensures answer { λ r. ⌜ r ≡ answered (setOn (Setting.flag Flag.request-device-identity on) (now (words .entry)) .answer) ⌝ }
     ensures buffer { λ r. ⌜ now (words .exit) ≡ setOn (Setting.flag Flag.request-device-identity on) (now (words .entry)) .words ⌝ }
 {
-    flag_on(words, FlagName::RequestDeviceIdentity, on)
+    named::flag_on(words, FlagName::RequestDeviceIdentity, on)
 }
 
 #[no_mangle]
@@ -65,7 +63,7 @@ pub extern "C" fn frayedbin_endpoint_discovery_set_request_endpoint_name(
     ensures answer { λ r. ⌜ r ≡ answered (setOn (Setting.flag Flag.request-endpoint-name on) (now (words .entry)) .answer) ⌝ }
     ensures buffer { λ r. ⌜ now (words .exit) ≡ setOn (Setting.flag Flag.request-endpoint-name on) (now (words .entry)) .words ⌝ }
 {
-    flag_on(words, FlagName::RequestEndpointName, on)
+    named::flag_on(words, FlagName::RequestEndpointName, on)
 }
 
 #[no_mangle]
@@ -76,7 +74,7 @@ pub extern "C" fn frayedbin_endpoint_discovery_set_request_product_instance_id(
     ensures answer { λ r. ⌜ r ≡ answered (setOn (Setting.flag Flag.request-product-instance-id on) (now (words .entry)) .answer) ⌝ }
     ensures buffer { λ r. ⌜ now (words .exit) ≡ setOn (Setting.flag Flag.request-product-instance-id on) (now (words .entry)) .words ⌝ }
 {
-    flag_on(words, FlagName::RequestProductInstanceId, on)
+    named::flag_on(words, FlagName::RequestProductInstanceId, on)
 }
 
 #[no_mangle]
@@ -87,7 +85,7 @@ pub extern "C" fn frayedbin_endpoint_discovery_set_request_stream_configuration(
     ensures answer { λ r. ⌜ r ≡ answered (setOn (Setting.flag Flag.request-stream-configuration on) (now (words .entry)) .answer) ⌝ }
     ensures buffer { λ r. ⌜ now (words .exit) ≡ setOn (Setting.flag Flag.request-stream-configuration on) (now (words .entry)) .words ⌝ }
 {
-    flag_on(words, FlagName::RequestStreamConfiguration, on)
+    named::flag_on(words, FlagName::RequestStreamConfiguration, on)
 }
 
 // On a record.
@@ -99,7 +97,7 @@ pub extern "C" fn frayedbin_record_set_request_endpoint_info(
 ) -> RecordAnswer
     ensures { λ r. ⌜ r ≡ setIn (λ m. Setting.flag Flag.request-endpoint-info on) «record» ⌝ }
 {
-    flag_in(record, FlagName::RequestEndpointInfo, on)
+    named::flag_in(record, FlagName::RequestEndpointInfo, on)
 }
 
 #[no_mangle]
@@ -109,7 +107,7 @@ pub extern "C" fn frayedbin_record_set_request_device_identity(
 ) -> RecordAnswer
     ensures { λ r. ⌜ r ≡ setIn (λ m. Setting.flag Flag.request-device-identity on) «record» ⌝ }
 {
-    flag_in(record, FlagName::RequestDeviceIdentity, on)
+    named::flag_in(record, FlagName::RequestDeviceIdentity, on)
 }
 
 #[no_mangle]
@@ -119,7 +117,7 @@ pub extern "C" fn frayedbin_record_set_request_endpoint_name(
 ) -> RecordAnswer
     ensures { λ r. ⌜ r ≡ setIn (λ m. Setting.flag Flag.request-endpoint-name on) «record» ⌝ }
 {
-    flag_in(record, FlagName::RequestEndpointName, on)
+    named::flag_in(record, FlagName::RequestEndpointName, on)
 }
 
 #[no_mangle]
@@ -129,7 +127,7 @@ pub extern "C" fn frayedbin_record_set_request_product_instance_id(
 ) -> RecordAnswer
     ensures { λ r. ⌜ r ≡ setIn (λ m. Setting.flag Flag.request-product-instance-id on) «record» ⌝ }
 {
-    flag_in(record, FlagName::RequestProductInstanceId, on)
+    named::flag_in(record, FlagName::RequestProductInstanceId, on)
 }
 
 #[no_mangle]
@@ -139,5 +137,5 @@ pub extern "C" fn frayedbin_record_set_request_stream_configuration(
 ) -> RecordAnswer
     ensures { λ r. ⌜ r ≡ setIn (λ m. Setting.flag Flag.request-stream-configuration on) «record» ⌝ }
 {
-    flag_in(record, FlagName::RequestStreamConfiguration, on)
+    named::flag_in(record, FlagName::RequestStreamConfiguration, on)
 }

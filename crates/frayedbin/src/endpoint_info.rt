@@ -4,10 +4,7 @@ ghost use Rattle.kinds.specs.Fields.{Flag, Number, Setting};
 ghost use Rattle.standard.specs.Words.{setOn};
 ghost use Rattle.c_structs.specs.Crossed.{answered};
 ghost use Rattle.frayedbin.specs.Calls.{setIn};
-use crate::named::flag_in;
-use crate::named::flag_on;
-use crate::named::number_in;
-use crate::named::number_on;
+use crate::named;
 use c_structs::answers::Answered;
 use c_structs::answers::RecordAnswer;
 use numbers::Numbers;
@@ -22,7 +19,7 @@ pub extern "C" fn frayedbin_endpoint_info_set_ump_version_major(
     ensures answer { λ r. ⌜ r ≡ answered (setOn (Setting.number Number.info-version-major version) (now (words .entry)) .answer) ⌝ }
     ensures buffer { λ r. ⌜ now (words .exit) ≡ setOn (Setting.number Number.info-version-major version) (now (words .entry)) .words ⌝ }
 {
-    number_on(words, NumberName::InfoVersionMajor, version)
+    named::number_on(words, NumberName::InfoVersionMajor, version)
 }
 
 #[no_mangle]
@@ -33,7 +30,7 @@ pub extern "C" fn frayedbin_endpoint_info_set_ump_version_minor(
     ensures answer { λ r. ⌜ r ≡ answered (setOn (Setting.number Number.info-version-minor version) (now (words .entry)) .answer) ⌝ }
     ensures buffer { λ r. ⌜ now (words .exit) ≡ setOn (Setting.number Number.info-version-minor version) (now (words .entry)) .words ⌝ }
 {
-    number_on(words, NumberName::InfoVersionMinor, version)
+    named::number_on(words, NumberName::InfoVersionMinor, version)
 }
 
 #[no_mangle]
@@ -44,7 +41,7 @@ pub extern "C" fn frayedbin_endpoint_info_set_static_function_blocks(
     ensures answer { λ r. ⌜ r ≡ answered (setOn (Setting.flag Flag.static-function-blocks on) (now (words .entry)) .answer) ⌝ }
     ensures buffer { λ r. ⌜ now (words .exit) ≡ setOn (Setting.flag Flag.static-function-blocks on) (now (words .entry)) .words ⌝ }
 {
-    flag_on(words, FlagName::StaticFunctionBlocks, on)
+    named::flag_on(words, FlagName::StaticFunctionBlocks, on)
 }
 
 #[no_mangle]
@@ -55,7 +52,7 @@ pub extern "C" fn frayedbin_endpoint_info_set_supports_midi2_protocol(
     ensures answer { λ r. ⌜ r ≡ answered (setOn (Setting.flag Flag.supports-midi2-protocol on) (now (words .entry)) .answer) ⌝ }
     ensures buffer { λ r. ⌜ now (words .exit) ≡ setOn (Setting.flag Flag.supports-midi2-protocol on) (now (words .entry)) .words ⌝ }
 {
-    flag_on(words, FlagName::SupportsMidi2Protocol, on)
+    named::flag_on(words, FlagName::SupportsMidi2Protocol, on)
 }
 
 #[no_mangle]
@@ -66,7 +63,7 @@ pub extern "C" fn frayedbin_endpoint_info_set_supports_midi1_protocol(
     ensures answer { λ r. ⌜ r ≡ answered (setOn (Setting.flag Flag.supports-midi1-protocol on) (now (words .entry)) .answer) ⌝ }
     ensures buffer { λ r. ⌜ now (words .exit) ≡ setOn (Setting.flag Flag.supports-midi1-protocol on) (now (words .entry)) .words ⌝ }
 {
-    flag_on(words, FlagName::SupportsMidi1Protocol, on)
+    named::flag_on(words, FlagName::SupportsMidi1Protocol, on)
 }
 
 #[no_mangle]
@@ -77,7 +74,7 @@ pub extern "C" fn frayedbin_endpoint_info_set_supports_receiving_jr_timestamps(
     ensures answer { λ r. ⌜ r ≡ answered (setOn (Setting.flag Flag.supports-receiving-jr-timestamps on) (now (words .entry)) .answer) ⌝ }
     ensures buffer { λ r. ⌜ now (words .exit) ≡ setOn (Setting.flag Flag.supports-receiving-jr-timestamps on) (now (words .entry)) .words ⌝ }
 {
-    flag_on(words, FlagName::SupportsReceivingJrTimestamps, on)
+    named::flag_on(words, FlagName::SupportsReceivingJrTimestamps, on)
 }
 
 #[no_mangle]
@@ -88,7 +85,7 @@ pub extern "C" fn frayedbin_endpoint_info_set_supports_sending_jr_timestamps(
     ensures answer { λ r. ⌜ r ≡ answered (setOn (Setting.flag Flag.supports-sending-jr-timestamps on) (now (words .entry)) .answer) ⌝ }
     ensures buffer { λ r. ⌜ now (words .exit) ≡ setOn (Setting.flag Flag.supports-sending-jr-timestamps on) (now (words .entry)) .words ⌝ }
 {
-    flag_on(words, FlagName::SupportsSendingJrTimestamps, on)
+    named::flag_on(words, FlagName::SupportsSendingJrTimestamps, on)
 }
 
 #[no_mangle]
@@ -99,7 +96,7 @@ pub extern "C" fn frayedbin_endpoint_info_set_number_of_function_blocks(
     ensures answer { λ r. ⌜ r ≡ answered (setOn (Setting.number Number.number-of-function-blocks number) (now (words .entry)) .answer) ⌝ }
     ensures buffer { λ r. ⌜ now (words .exit) ≡ setOn (Setting.number Number.number-of-function-blocks number) (now (words .entry)) .words ⌝ }
 {
-    number_on(words, NumberName::NumberOfFunctionBlocks, number)
+    named::number_on(words, NumberName::NumberOfFunctionBlocks, number)
 }
 
 // On a record.
@@ -111,7 +108,7 @@ pub extern "C" fn frayedbin_record_set_static_function_blocks(
 ) -> RecordAnswer
     ensures { λ r. ⌜ r ≡ setIn (λ m. Setting.flag Flag.static-function-blocks on) «record» ⌝ }
 {
-    flag_in(record, FlagName::StaticFunctionBlocks, on)
+    named::flag_in(record, FlagName::StaticFunctionBlocks, on)
 }
 
 #[no_mangle]
@@ -121,7 +118,7 @@ pub extern "C" fn frayedbin_record_set_supports_midi2_protocol(
 ) -> RecordAnswer
     ensures { λ r. ⌜ r ≡ setIn (λ m. Setting.flag Flag.supports-midi2-protocol on) «record» ⌝ }
 {
-    flag_in(record, FlagName::SupportsMidi2Protocol, on)
+    named::flag_in(record, FlagName::SupportsMidi2Protocol, on)
 }
 
 #[no_mangle]
@@ -131,7 +128,7 @@ pub extern "C" fn frayedbin_record_set_supports_midi1_protocol(
 ) -> RecordAnswer
     ensures { λ r. ⌜ r ≡ setIn (λ m. Setting.flag Flag.supports-midi1-protocol on) «record» ⌝ }
 {
-    flag_in(record, FlagName::SupportsMidi1Protocol, on)
+    named::flag_in(record, FlagName::SupportsMidi1Protocol, on)
 }
 
 #[no_mangle]
@@ -141,7 +138,7 @@ pub extern "C" fn frayedbin_record_set_supports_receiving_jr_timestamps(
 ) -> RecordAnswer
     ensures { λ r. ⌜ r ≡ setIn (λ m. Setting.flag Flag.supports-receiving-jr-timestamps on) «record» ⌝ }
 {
-    flag_in(record, FlagName::SupportsReceivingJrTimestamps, on)
+    named::flag_in(record, FlagName::SupportsReceivingJrTimestamps, on)
 }
 
 #[no_mangle]
@@ -151,7 +148,7 @@ pub extern "C" fn frayedbin_record_set_supports_sending_jr_timestamps(
 ) -> RecordAnswer
     ensures { λ r. ⌜ r ≡ setIn (λ m. Setting.flag Flag.supports-sending-jr-timestamps on) «record» ⌝ }
 {
-    flag_in(record, FlagName::SupportsSendingJrTimestamps, on)
+    named::flag_in(record, FlagName::SupportsSendingJrTimestamps, on)
 }
 
 #[no_mangle]
@@ -161,5 +158,5 @@ pub extern "C" fn frayedbin_record_set_number_of_function_blocks(
 ) -> RecordAnswer
     ensures { λ r. ⌜ r ≡ setIn (λ m. Setting.number Number.number-of-function-blocks number) «record» ⌝ }
 {
-    number_in(record, NumberName::NumberOfFunctionBlocks, number)
+    named::number_in(record, NumberName::NumberOfFunctionBlocks, number)
 }

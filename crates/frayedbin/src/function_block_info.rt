@@ -4,10 +4,7 @@ ghost use Rattle.kinds.specs.Fields.{Flag, Number, Setting};
 ghost use Rattle.standard.specs.Words.{setOn};
 ghost use Rattle.c_structs.specs.Crossed.{answered};
 ghost use Rattle.frayedbin.specs.Calls.{hintOn, portOn, directionOn, setIn, hintIn, portIn, directionIn};
-use crate::named::flag_in;
-use crate::named::flag_on;
-use crate::named::number_in;
-use crate::named::number_on;
+use crate::named;
 use c_structs::answers::Answered;
 use c_structs::answers::RecordAnswer;
 use c_structs::answers::of_answer;
@@ -23,7 +20,7 @@ use c_structs::choices::port_from_code;
 use numbers::Numbers;
 use numbers::to_record::FromNumbers;
 use numbers::to_record::record_from;
-use settings::function_block_info;
+use settings::choices;
 use table::names::FlagName;
 use table::names::NumberName;
 
@@ -32,7 +29,7 @@ pub extern "C" fn frayedbin_function_block_info_set_active(words: &mut [u32], on
     ensures answer { λ r. ⌜ r ≡ answered (setOn (Setting.flag Flag.active on) (now (words .entry)) .answer) ⌝ }
     ensures buffer { λ r. ⌜ now (words .exit) ≡ setOn (Setting.flag Flag.active on) (now (words .entry)) .words ⌝ }
 {
-    flag_on(words, FlagName::Active, on)
+    named::flag_on(words, FlagName::Active, on)
 }
 
 #[no_mangle]
@@ -43,7 +40,7 @@ pub extern "C" fn frayedbin_function_block_info_set_function_block_number(
     ensures answer { λ r. ⌜ r ≡ answered (setOn (Setting.number Number.function-block-number number) (now (words .entry)) .answer) ⌝ }
     ensures buffer { λ r. ⌜ now (words .exit) ≡ setOn (Setting.number Number.function-block-number number) (now (words .entry)) .words ⌝ }
 {
-    number_on(words, NumberName::FunctionBlockNumber, number)
+    named::number_on(words, NumberName::FunctionBlockNumber, number)
 }
 
 #[no_mangle]
@@ -55,7 +52,7 @@ pub extern "C" fn frayedbin_function_block_info_set_ui_hint(
     ensures buffer { λ r. ⌜ now (words .exit) ≡ hintOn code (now (words .entry)) .words ⌝ }
 {
     match hint_from_code(code) {
-        HintFromCode::Is(hint) => of_answer(function_block_info::set_ui_hint(words, hint)),
+        HintFromCode::Is(hint) => of_answer(choices::set_ui_hint(words, hint)),
         HintFromCode::Refused(refusal) => of_refusal(refusal),
     }
 }
@@ -69,7 +66,7 @@ pub extern "C" fn frayedbin_function_block_info_set_midi1_port(
     ensures buffer { λ r. ⌜ now (words .exit) ≡ portOn code (now (words .entry)) .words ⌝ }
 {
     match port_from_code(code) {
-        PortFromCode::Is(port) => of_answer(function_block_info::set_midi1_port(words, port)),
+        PortFromCode::Is(port) => of_answer(choices::set_midi1_port(words, port)),
         PortFromCode::Refused(refusal) => of_refusal(refusal),
     }
 }
@@ -83,10 +80,7 @@ pub extern "C" fn frayedbin_function_block_info_set_direction(
     ensures buffer { λ r. ⌜ now (words .exit) ≡ directionOn code (now (words .entry)) .words ⌝ }
 {
     match direction_from_code(code) {
-        DirectionFromCode::Is(direction) => of_answer(function_block_info::set_direction(
-            words,
-            direction,
-        )),
+        DirectionFromCode::Is(direction) => of_answer(choices::set_direction(words, direction)),
         DirectionFromCode::Refused(refusal) => of_refusal(refusal),
     }
 }
@@ -99,7 +93,7 @@ pub extern "C" fn frayedbin_function_block_info_set_first_group(
     ensures answer { λ r. ⌜ r ≡ answered (setOn (Setting.number Number.first-group group) (now (words .entry)) .answer) ⌝ }
     ensures buffer { λ r. ⌜ now (words .exit) ≡ setOn (Setting.number Number.first-group group) (now (words .entry)) .words ⌝ }
 {
-    number_on(words, NumberName::FirstGroup, group)
+    named::number_on(words, NumberName::FirstGroup, group)
 }
 
 #[no_mangle]
@@ -110,7 +104,7 @@ pub extern "C" fn frayedbin_function_block_info_set_number_of_groups_spanned(
     ensures answer { λ r. ⌜ r ≡ answered (setOn (Setting.number Number.number-of-groups-spanned number) (now (words .entry)) .answer) ⌝ }
     ensures buffer { λ r. ⌜ now (words .exit) ≡ setOn (Setting.number Number.number-of-groups-spanned number) (now (words .entry)) .words ⌝ }
 {
-    number_on(words, NumberName::NumberOfGroupsSpanned, number)
+    named::number_on(words, NumberName::NumberOfGroupsSpanned, number)
 }
 
 #[no_mangle]
@@ -121,7 +115,7 @@ pub extern "C" fn frayedbin_function_block_info_set_midi_ci_version(
     ensures answer { λ r. ⌜ r ≡ answered (setOn (Setting.number Number.midi-ci-version version) (now (words .entry)) .answer) ⌝ }
     ensures buffer { λ r. ⌜ now (words .exit) ≡ setOn (Setting.number Number.midi-ci-version version) (now (words .entry)) .words ⌝ }
 {
-    number_on(words, NumberName::MidiCiVersion, version)
+    named::number_on(words, NumberName::MidiCiVersion, version)
 }
 
 #[no_mangle]
@@ -132,7 +126,7 @@ pub extern "C" fn frayedbin_function_block_info_set_max_number_of_midi_ci_stream
     ensures answer { λ r. ⌜ r ≡ answered (setOn (Setting.number Number.max-number-of-midi-ci-streams number) (now (words .entry)) .answer) ⌝ }
     ensures buffer { λ r. ⌜ now (words .exit) ≡ setOn (Setting.number Number.max-number-of-midi-ci-streams number) (now (words .entry)) .words ⌝ }
 {
-    number_on(words, NumberName::MaxNumberOfMidiCiStreams, number)
+    named::number_on(words, NumberName::MaxNumberOfMidiCiStreams, number)
 }
 
 // On a record.
@@ -141,7 +135,7 @@ pub extern "C" fn frayedbin_function_block_info_set_max_number_of_midi_ci_stream
 pub extern "C" fn frayedbin_record_set_active(record: Numbers, on: bool) -> RecordAnswer
     ensures { λ r. ⌜ r ≡ setIn (λ m. Setting.flag Flag.active on) «record» ⌝ }
 {
-    flag_in(record, FlagName::Active, on)
+    named::flag_in(record, FlagName::Active, on)
 }
 
 #[no_mangle]
@@ -151,7 +145,7 @@ pub extern "C" fn frayedbin_record_set_function_block_number(
 ) -> RecordAnswer
     ensures { λ r. ⌜ r ≡ setIn (λ m. Setting.number Number.function-block-number number) «record» ⌝ }
 {
-    number_in(record, NumberName::FunctionBlockNumber, number)
+    named::number_in(record, NumberName::FunctionBlockNumber, number)
 }
 
 #[no_mangle]
@@ -197,7 +191,7 @@ pub extern "C" fn frayedbin_record_set_direction(record: Numbers, code: u32) -> 
 pub extern "C" fn frayedbin_record_set_first_group(record: Numbers, group: u32) -> RecordAnswer
     ensures { λ r. ⌜ r ≡ setIn (λ m. Setting.number Number.first-group group) «record» ⌝ }
 {
-    number_in(record, NumberName::FirstGroup, group)
+    named::number_in(record, NumberName::FirstGroup, group)
 }
 
 #[no_mangle]
@@ -207,7 +201,7 @@ pub extern "C" fn frayedbin_record_set_number_of_groups_spanned(
 ) -> RecordAnswer
     ensures { λ r. ⌜ r ≡ setIn (λ m. Setting.number Number.number-of-groups-spanned number) «record» ⌝ }
 {
-    number_in(record, NumberName::NumberOfGroupsSpanned, number)
+    named::number_in(record, NumberName::NumberOfGroupsSpanned, number)
 }
 
 #[no_mangle]
@@ -217,7 +211,7 @@ pub extern "C" fn frayedbin_record_set_midi_ci_version(
 ) -> RecordAnswer
     ensures { λ r. ⌜ r ≡ setIn (λ m. Setting.number Number.midi-ci-version version) «record» ⌝ }
 {
-    number_in(record, NumberName::MidiCiVersion, version)
+    named::number_in(record, NumberName::MidiCiVersion, version)
 }
 
 #[no_mangle]
@@ -227,5 +221,5 @@ pub extern "C" fn frayedbin_record_set_max_number_of_midi_ci_streams(
 ) -> RecordAnswer
     ensures { λ r. ⌜ r ≡ setIn (λ m. Setting.number Number.max-number-of-midi-ci-streams number) «record» ⌝ }
 {
-    number_in(record, NumberName::MaxNumberOfMidiCiStreams, number)
+    named::number_in(record, NumberName::MaxNumberOfMidiCiStreams, number)
 }

@@ -1,4 +1,4 @@
--- A field is of one kind, and every other kind lacks it; a test of every kind, told at one. Closed by computing the table once, row by row.
+-- A field is of one kind, and every other kind lacks it. Closed by computing the table once, row by row.
 use Prim.Native.Nat.{ℕ}
 use mathlib.Core.Path.{_≡_, refl, sym, ap, _∙_}
 use mathlib.Core.Bool.{Bool, true, false}
@@ -9,11 +9,10 @@ use Rattle.laws.specs.Pick.{pick, both}
 use Rattle.laws.proofs.Pick.{true-false, both-left, both-right, split}
 use Rattle.slots.specs.Slots.{Slot, those}
 use Rattle.kinds.specs.declared.kind.Kind.{Kind}
-use Rattle.kinds.specs.declared.kind.Kind.the-variants as K
 use Rattle.kinds.specs.declared.kind.Known.the-variants.{Is}
 use Rattle.kinds.specs.Fields.{Field, same, decided}
 use Rattle.kinds.specs.Layout.{Part, layout, kinds, kindOf, none, slotsOf}
-use Rattle.kinds.proofs.Rows.{status-kind}
+use Rattle.kinds.proofs.Rows.{status-kind, everyKind, at-kind}
 use Rattle.kinds.proofs.Fields.{same-true}
 
 -- ---- a test that each field of a table passes, a field of the table passes
@@ -36,14 +35,8 @@ home [] f = 0
 home (k ∷ ks) f = pick (none (slotsOf f (layout k .fields))) (home ks f) (layout k .status)
 
 rows-home : (k : Kind) → eachField (λ f. eqb (home kinds f) (layout k .status)) (layout k .fields) ≡ true
-unfolding eachField home layout those same decided both
-rows-home K.EndpointDiscovery = refl
-rows-home K.EndpointInfo = refl
-rows-home K.DeviceIdentity = refl
-rows-home K.EndpointName = refl
-rows-home K.ProductInstanceId = refl
-rows-home K.FunctionBlockInfo = refl
-rows-home K.FunctionBlockName = refl
+unfolding everyKind eachField home layout those same decided both
+rows-home k = at-kind (λ j. eachField (λ f. eqb (home kinds f) (layout j .status)) (layout j .fields)) refl k
 
 home-is : (k : Kind) (f : Field) → none (slotsOf f (layout k .fields)) ≡ false → home kinds f ≡ layout k .status
 home-is k f h = eqb-true _ _ (each-field (λ g. eqb (home kinds g) (layout k .status)) (layout k .fields) f (rows-home k) h)
@@ -59,19 +52,3 @@ one-kind j k f a b = one-status j k (sym (home-is j f a) ∙ home-is k f b)
 -- so every other kind lacks it
 pub elsewhere : (k j : Kind) (f : Field) → none (slotsOf f (layout k .fields)) ≡ false → (j ≡ k → ⊥) → none (slotsOf f (layout j .fields)) ≡ true
 elsewhere k j f h n = split (none (slotsOf f (layout j .fields))) (λ e. e) (λ e. absurd (n (one-kind j k f e h)))
-
--- ---- a test of every kind
-unfoldable pub everyKind : (Kind → Bool) → Bool
-everyKind t =
-    both (t K.EndpointDiscovery) (both (t K.EndpointInfo) (both (t K.DeviceIdentity) (both (t K.EndpointName)
-    (both (t K.ProductInstanceId) (both (t K.FunctionBlockInfo) (t K.FunctionBlockName))))))
-
-pub at-kind : (t : Kind → Bool) → everyKind t ≡ true → (k : Kind) → t k ≡ true
-unfolding everyKind
-at-kind t e K.EndpointDiscovery = both-left _ _ e
-at-kind t e K.EndpointInfo = both-left _ _ (both-right _ _ e)
-at-kind t e K.DeviceIdentity = both-left _ _ (both-right _ _ (both-right _ _ e))
-at-kind t e K.EndpointName = both-left _ _ (both-right _ _ (both-right _ _ (both-right _ _ e)))
-at-kind t e K.ProductInstanceId = both-left _ _ (both-right _ _ (both-right _ _ (both-right _ _ (both-right _ _ e))))
-at-kind t e K.FunctionBlockInfo = both-left _ _ (both-right _ _ (both-right _ _ (both-right _ _ (both-right _ _ (both-right _ _ e)))))
-at-kind t e K.FunctionBlockName = both-right _ _ (both-right _ _ (both-right _ _ (both-right _ _ (both-right _ _ (both-right _ _ e)))))

@@ -1,11 +1,11 @@
--- The table is right, row by row, and what that tells of a row. Closed by computation: the tests are run over each row.
+-- A test of every kind, told at one; the table is right, row by row, and what that tells of a row. Closed by computation: the tests are run over each row.
 use Prim.Native.Nat.{ℕ, _≤_, _<_}
-use mathlib.Core.Path.{_≡_, refl, ap, _∙_}
+use mathlib.Core.Path.{_≡_, refl, sym, ap, _∙_}
 use mathlib.Core.Bool.{Bool, true, false}
 use mathlib.Core.List.{List, [], _∷_}
 use native.Mathlib.Omega.{arith}
-use lib.Dec.{eqb, lit≤}
-use borrow.Author.Tests.{leb-true, eqb-true}
+use lib.Dec.{ltb, eqb, lit≤}
+use borrow.Author.Tests.{ltb-true, leb-true, eqb-true}
 use Rattle.laws.specs.Pick.{pick, both}
 use Rattle.laws.specs.Lists.{map}
 use Rattle.laws.proofs.Pick.{never, both-left, both-right}
@@ -15,18 +15,7 @@ use Rattle.kinds.specs.declared.kind.Kind.{Kind}
 use Rattle.kinds.specs.declared.kind.Kind.the-variants as K
 use Rattle.kinds.specs.declared.kind.Known.the-variants.{Is}
 use Rattle.kinds.specs.Fields.{Text, start, partOf}
-use Rattle.kinds.specs.Layout.{Part, Body, fixed, texts, Row, layout, capacityIn, mostIn, kindOf, among, parts, headSlot, textSlot, right, rightBody, discoveryFields, infoFields, identityFields, blockFields, nameFields}
-
--- no two fields of a kind share a bit, none touches the head or the text or leaves its word
-pub rows-right : (k : Kind) → right (layout k) ≡ true
-unfolding right rightBody layout disjoint apartFromAll wordsBelow bitsWithin apart both
-rows-right K.EndpointDiscovery = refl
-rows-right K.EndpointInfo = refl
-rows-right K.DeviceIdentity = refl
-rows-right K.EndpointName = refl
-rows-right K.ProductInstanceId = refl
-rows-right K.FunctionBlockInfo = refl
-rows-right K.FunctionBlockName = refl
+use Rattle.kinds.specs.Layout.{Part, Body, fixed, texts, Row, layout, capacityIn, mostIn, kinds, kindOf, among, parts, headSlot, textSlot, right, rightBody, discoveryFields, infoFields, identityFields, blockFields, nameFields}
 
 -- a kind's status is its own
 pub status-kind : (k : Kind) → kindOf (layout k .status) ≡ Is k
@@ -49,15 +38,32 @@ among-status (j ∷ ks) s k e = go (eqb s (layout j .status)) refl e (among-stat
     go true t q ih = let w : j ≡ k = cc in eqb-true s (layout j .status) t ∙ ap (λ (i : Kind). layout i .status) w
     go false t q ih = ih q
 
+-- ---- a test of every kind
+-- each of some kinds passes a test
+unfoldable pub everyKind : (Kind → Bool) → List Kind → Bool
+everyKind t [] = true
+everyKind t (k ∷ ks) = both (t k) (everyKind t ks)
+
+every-among : (t : Kind → Bool) (ks : List Kind) (s : ℕ) (k : Kind) → everyKind t ks ≡ true → among ks s ≡ Is k → t k ≡ true
+unfolding everyKind among
+every-among t [] s k e q = never (cc)
+every-among t (j ∷ ks) s k e q = go (eqb s (layout j .status)) q (every-among t ks s k (both-right _ _ e))
+  where
+    go : (b : Bool) → pick b (Is j) (among ks s) ≡ Is k → (among ks s ≡ Is k → t k ≡ true) → t k ≡ true
+    go true a ih = let w : j ≡ k = cc in ap t (sym w) ∙ both-left _ _ e
+    go false a ih = ih a
+
+pub at-kind : (t : Kind → Bool) → everyKind t kinds ≡ true → (k : Kind) → t k ≡ true
+at-kind t e k = every-among t kinds (layout k .status) k e (status-kind k)
+
+-- no two fields of a kind share a bit, none touches the head or the text or leaves its word
+pub rows-right : (k : Kind) → right (layout k) ≡ true
+unfolding everyKind right rightBody layout disjoint apartFromAll wordsBelow bitsWithin apart both
+rows-right k = at-kind (λ j. right (layout j)) refl k
+
 pub status-small : (k : Kind) → layout k .status < 0x400
-unfolding layout
-status-small K.EndpointDiscovery = omega arith
-status-small K.EndpointInfo = omega arith
-status-small K.DeviceIdentity = omega arith
-status-small K.EndpointName = omega arith
-status-small K.ProductInstanceId = omega arith
-status-small K.FunctionBlockInfo = omega arith
-status-small K.FunctionBlockName = omega arith
+unfolding everyKind layout both
+status-small k = ltb-true _ _ (at-kind (λ j. ltb (layout j .status) 0x400) refl k)
 
 -- ---- a row that is right, by its parts
 pub record RowRight (b : Body) (r : Row) : Type 0 where
@@ -121,14 +127,8 @@ capacity-16 (texts x from) = omega arith
 
 -- the starting values of each kind fit
 pub start-fits : (k : Kind) → fits (layout k .fields) (parts start) ≡ true
-unfolding fits layout both start partOf
-start-fits K.EndpointDiscovery = refl
-start-fits K.EndpointInfo = refl
-start-fits K.DeviceIdentity = refl
-start-fits K.EndpointName = refl
-start-fits K.ProductInstanceId = refl
-start-fits K.FunctionBlockInfo = refl
-start-fits K.FunctionBlockName = refl
+unfolding everyKind fits layout both start partOf
+start-fits k = at-kind (λ j. fits (layout j .fields) (parts start)) refl k
 
 -- the masks that the slots give are those of the Rust's schemas, in the table's order
 abbrev masks : List (Slot Part) → List ℕ

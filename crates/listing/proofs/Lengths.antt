@@ -28,7 +28,7 @@ use Rattle.standard.specs.Formed.{Formed}
 use Rattle.ascii_lines.specs.Numbers.{decimal, hexOrDash}
 use Rattle.ascii_lines.proofs.Room.{decimal-length, hex-or-dash-length}
 use Rattle.listing.specs.Lines.{kindName, messageShown}
-use Rattle.listing.proofs.Numbers.{discovery-shown, info-shown, identity-shown, block-shown}
+use Rattle.listing.proofs.Numbers.{fixed-shown}
 
 -- ---- digits
 -- a number below ten, below a hundred, of eight bits, and of fourteen
@@ -89,17 +89,17 @@ pub message-length : (m : Message) (t ws : List ℕ) → Formed m t ws → lengt
 unfolding each reads layout partOf fieldsIn lookup firstPart same decided kindName
 message-length (M.EndpointDiscovery e) t ws f =
     let h = f .fields 0 (f .some) in
-    fixed-length (discovery-shown {e = e} ws refl)
+    fixed-length (fixed-shown {w = M.EndpointDiscovery e} ws 7 refl refl (lit≤ tt) refl refl)
     (simp length-append (omega (arith, digit-1 1 (lit≤ tt), digits-3 _ (got-small _ _ (h .0)), digits-3 _ (got-small _ _ (h .1 .0)), bit-length (e .«request_endpoint_info»), bit-length (e .«request_device_identity»), bit-length (e .«request_endpoint_name»), bit-length (e .«request_product_instance_id»), bit-length (e .«request_stream_configuration»))))
 message-length (M.EndpointInfo e) t ws f =
     let h = f .fields 0 (f .some) in
-    fixed-length (info-shown {e = e} ws refl)
+    fixed-length (fixed-shown {w = M.EndpointInfo e} ws 8 refl refl (lit≤ tt) refl refl)
     (simp length-append (omega (arith, digit-1 1 (lit≤ tt), digits-3 _ (got-small _ _ (h .0)), digits-3 _ (got-small _ _ (h .1 .0)), bit-length (e .«static_function_blocks»), bit-length (e .«supports_midi2_protocol»), bit-length (e .«supports_midi1_protocol»), bit-length (e .«supports_receiving_jr_timestamps»), bit-length (e .«supports_sending_jr_timestamps»), digits-3 _ (small (got-small _ _ (h .1 .1 .1 .1 .1 .1 .1 .0))))))
 message-length (M.DeviceIdentity e) t ws f =
     let h = f .fields 0 (f .some) in
     let g = h .1 .1 .1 in
     let v = g .1 .1 .1 .1 in
-    fixed-length (identity-shown {e = e} ws refl)
+    fixed-length (fixed-shown {w = M.DeviceIdentity e} ws 9 refl refl (lit≤ tt) refl refl)
     (simp length-append (omega (arith, digit-1 1 (lit≤ tt), digits-3 _ (small (got-small _ _ (h .0))), digits-3 _ (small (got-small _ _ (h .1 .0))), digits-3 _ (small (got-small _ _ (h .1 .1 .0))), digits-5 _ (pair (got-small _ _ (g .1 .0))), digits-5 _ (pair (got-small _ _ (g .1 .1 .1 .0))), digits-3 _ (small (got-small _ _ (v .0))), digits-3 _ (small (got-small _ _ (v .1 .0))), digits-3 _ (small (got-small _ _ (v .1 .1 .0))), digits-3 _ (small (got-small _ _ (v .1 .1 .1 .0))))))
 message-length (M.EndpointName n) t ws f =
     let a = f .some in
@@ -112,7 +112,7 @@ message-length (M.ProductInstanceId n) t ws f =
 message-length (M.FunctionBlockInfo e) t ws f =
     let h = f .fields 0 (f .some) in
     let g = h .1 .1 .1 .1 .1 in
-    fixed-length (block-shown {e = e} ws refl)
+    fixed-length (fixed-shown {w = M.FunctionBlockInfo e} ws 9 refl refl (lit≤ tt) refl refl)
     (simp length-append (omega (arith, digit-1 1 (lit≤ tt), bit-length (e .active), digits-3 _ (small (got-small _ _ (h .1 .0))), hint-length (e .«ui_hint»), port-length (e .«midi1_port»), direction-length (e .direction), digits-3 _ (nibble (got-small _ _ (g .0))), digits-3 _ (got-small _ _ (g .1 .0)), digits-3 _ (got-small _ _ (g .1 .1 .0)), digits-3 _ (got-small _ _ (g .1 .1 .1 .0)))))
 message-length (M.FunctionBlockName b n) t ws f =
     let a = f .some in

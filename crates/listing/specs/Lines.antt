@@ -30,7 +30,7 @@ kindName K.FunctionBlockInfo = ascii "function-block-info"
 kindName K.FunctionBlockName = ascii "function-block-name"
 
 -- the text of n packets, of a kind that has one
-abbrev textShown : Body → ℕ → List ℕ → List ℕ
+abbrev pub textShown : Body → ℕ → List ℕ → List ℕ
 textShown fixed n ws = []
 textShown (texts t from) n ws = ascii " " ++ hexOrDash (textOf ws (capacityIn (texts t from)) n)
 

@@ -1,10 +1,11 @@
 -- A RECORD COMES BACK FROM ITS NUMBERS, and accepted numbers are those of the record that they make. Closed by computing the table at each kind, and the laws of the codes.
-use Prim.Native.Nat.{ℕ}
+use Prim.Native.Nat.{ℕ, _≤_}
 use mathlib.Core.Path.{_≡_, refl, sym, ap, _∙_}
 use mathlib.Core.Bool.{true, false}
 use mathlib.Core.Logic.{_≢_}
-use mathlib.Core.List.{List}
-use lib.ListN.{getD}
+use mathlib.Core.List.{List, [], _∷_}
+use native.Mathlib.Omega.{arith}
+use lib.ListN.{length, getD, take}
 use lib.Dec.{eqb}
 use borrow.Author.Tests.{ne-eqb, eqb-false, not-false}
 use Rattle.laws.specs.Lists.{each}
@@ -106,6 +107,20 @@ accepted-numbers c m e = go (kindOf (c .status)) refl e
 -- all numbers in a row are the numbers, so that `trimmed` leaves out no others
 pub nine-back : (c : Numbers) → numbered (c .status) (c .packets) (nine c) ≡ c
 nine-back c = refl
+
+-- as many of the nine numbers as were put in a row are these
+pub nine-taken : (s p : ℕ) (xs : List ℕ) → length xs ≤ 9 → take (length xs) (nine (numbered s p xs)) ≡ xs
+nine-taken s p [] h = refl
+nine-taken s p (a ∷ []) h = refl
+nine-taken s p (a ∷ b ∷ []) h = refl
+nine-taken s p (a ∷ b ∷ c ∷ []) h = refl
+nine-taken s p (a ∷ b ∷ c ∷ d ∷ []) h = refl
+nine-taken s p (a ∷ b ∷ c ∷ d ∷ e ∷ []) h = refl
+nine-taken s p (a ∷ b ∷ c ∷ d ∷ e ∷ f ∷ []) h = refl
+nine-taken s p (a ∷ b ∷ c ∷ d ∷ e ∷ f ∷ g ∷ []) h = refl
+nine-taken s p (a ∷ b ∷ c ∷ d ∷ e ∷ f ∷ g ∷ i ∷ []) h = refl
+nine-taken s p (a ∷ b ∷ c ∷ d ∷ e ∷ f ∷ g ∷ i ∷ j ∷ []) h = refl
+nine-taken s p (a ∷ b ∷ c ∷ d ∷ e ∷ f ∷ g ∷ i ∷ j ∷ k ∷ xs) h = absurd (omega arith)
 
 -- and what it leaves out is not looked at
 pub trimmed-same : (k : Kind) (c : Numbers) → fromKind k (trimmed k c) ≡ fromKind k c

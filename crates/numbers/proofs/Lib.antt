@@ -1,3 +1,4 @@
+pub mod AsNumbers
 pub mod BySlot
 pub mod Within
 pub mod Accepted

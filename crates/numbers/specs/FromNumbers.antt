@@ -9,7 +9,6 @@ use Rattle.laws.specs.Pick.{pick, both}
 use Rattle.laws.specs.Lists.{each}
 use Rattle.slots.specs.Slots.{fits}
 use Rattle.kinds.specs.declared.kind.Kind.{Kind}
-use Rattle.kinds.specs.declared.kind.Kind.the-variants as K
 use Rattle.kinds.specs.declared.kind.Known.{Known}
 use Rattle.kinds.specs.declared.kind.Known.the-variants.{Is, Unknown}
 use Rattle.kinds.specs.declared.refusal.Refusal.the-variants.{UnknownStatus, BadPort, BadDirection, NumberTooLarge}
@@ -55,10 +54,10 @@ abbrev pub trimmed : Kind → Numbers → Numbers
 trimmed k c =
     numbered (c .status) (pick (hasText (layout k .body)) (c .packets) 1) (take (length (each start (inOrder k))) (nine c))
 
--- each number is below its limit
+-- each limit has its number, which is below it
 unfoldable pub within : List ℕ → List ℕ → Bool
-within [] ls = true
-within (n ∷ ns) [] = false
+within ns [] = true
+within [] (l ∷ ls) = false
 within (n ∷ ns) (l ∷ ls) = both (ltb n l) (within ns ls)
 
 -- ---- the numbers of the slots, one a slot: a pair is two septets, the low one first
@@ -69,11 +68,6 @@ abbrev pub pairSlots : Numbers → List ℕ
 pairSlots c =
     c .first ∷ c .second ∷ c .third ∷ c .fourth % 128 ∷ c .fourth / 128 ∷ c .fifth % 128 ∷ c .fifth / 128 ∷ c .sixth ∷ c .seventh ∷ c .eighth ∷ c .ninth ∷ []
 
-abbrev pub slotNumbers : Kind → Numbers → List ℕ
-slotNumbers K.EndpointDiscovery c = plainSlots c
-slotNumbers K.EndpointInfo c = plainSlots c
-slotNumbers K.DeviceIdentity c = pairSlots c
-slotNumbers K.EndpointName c = plainSlots c
-slotNumbers K.ProductInstanceId c = plainSlots c
-slotNumbers K.FunctionBlockInfo c = plainSlots c
-slotNumbers K.FunctionBlockName c = plainSlots c
+-- a kind with more slots than numbers has pairs
+unfoldable pub slotNumbers : Kind → Numbers → List ℕ
+slotNumbers k c = pick (ltb 9 (length (layout k .fields))) (pairSlots c) (plainSlots c)

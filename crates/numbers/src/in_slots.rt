@@ -47,28 +47,24 @@ fn pair_slots(c: Numbers) -> [u32; 11]
     ]
 }
 
-// 0 past the kind's last slot.
+// A kind with more slots than numbers has pairs. 0 past the kind's last slot.
 fn slot_numbers(kind: Kind, c: Numbers) -> [u32; 11]
     ensures { λ r. ⌜ r ≡ slotNumbers kind c ⌝ }
 {
-    match kind {
-        Kind::EndpointDiscovery => plain_slots(c),
-        Kind::EndpointInfo => plain_slots(c),
-        Kind::DeviceIdentity => pair_slots(c),
-        Kind::EndpointName => plain_slots(c),
-        Kind::ProductInstanceId => plain_slots(c),
-        Kind::FunctionBlockInfo => plain_slots(c),
-        Kind::FunctionBlockName => plain_slots(c),
+    let row = row_of(kind);
+    if 9 < row.slots {
+        return pair_slots(c);
     }
+    plain_slots(c)
 }
 
-// Whether each number is below its limit.
+// Whether each limit has its number, which is below it.
 fn are_within(numbers: &[u32], limits: &[u32]) -> bool
     ensures { λ r. ⌜ r ≡ within (now (numbers .entry)) (now (limits .entry)) ⌝ }
 {
     let mut i = 0;
-    while i < numbers.len() {
-        if limits.len() <= i {
+    while i < limits.len() {
+        if numbers.len() <= i {
             return false;
         }
         if limits[i] <= numbers[i] {
@@ -85,13 +81,13 @@ pub fn numbers_in_range(kind: Kind, c: Numbers) -> bool
 {
     let ns = slot_numbers(kind, c);
     match kind {
-        Kind::EndpointDiscovery => are_within(&ns[..7], &[256, 256, 2, 2, 2, 2, 2]),
-        Kind::EndpointInfo => are_within(&ns[..8], &[256, 256, 2, 2, 2, 2, 2, 128]),
-        Kind::DeviceIdentity => are_within(&ns[..11], &[128; 11]),
+        Kind::EndpointDiscovery => are_within(&ns, &[256, 256, 2, 2, 2, 2, 2]),
+        Kind::EndpointInfo => are_within(&ns, &[256, 256, 2, 2, 2, 2, 2, 128]),
+        Kind::DeviceIdentity => are_within(&ns, &[128; 11]),
         Kind::EndpointName => true,
         Kind::ProductInstanceId => true,
-        Kind::FunctionBlockInfo => are_within(&ns[..9], &[2, 128, 4, 4, 4, 16, 256, 256, 256]),
-        Kind::FunctionBlockName => are_within(&ns[..1], &[256]),
+        Kind::FunctionBlockInfo => are_within(&ns, &[2, 128, 4, 4, 4, 16, 256, 256, 256]),
+        Kind::FunctionBlockName => are_within(&ns, &[256]),
     }
 }
 

@@ -1,5 +1,6 @@
 // The numbers of a record, a function for each fixed kind.
 ghost use mathlib.Core.Path.{_≡_};
+ghost use lib.ListN.{getD};
 ghost use Rattle.kinds.specs.Layout.{layout};
 ghost use Rattle.records.specs.declared.message.Message.the-variants as M;
 ghost use Rattle.numbers.specs.Numbers.{numbered, asNumbers, oneNumber, noNumbers};
@@ -15,23 +16,33 @@ use records::function_block_info::FunctionBlockInfo;
 use records::message::Message;
 use table::rows::row_of;
 
-// The numbers of a kind, which gives the status.
-fn of_kind(kind: Kind, packets: usize, ns: [u32; 9]) -> Numbers
-    ensures { λ r. ⌜ r ≡ numbered (layout kind .status) packets ns ⌝ }
+// Number i of a list; 0 past its last.
+fn nth(numbers: &[u32], i: usize) -> u32
+    ensures { λ r. ⌜ r ≡ getD (now (numbers .entry)) i 0 ⌝ }
+{
+    if i < numbers.len() {
+        return numbers[i];
+    }
+    0
+}
+
+// The numbers of a kind, which gives the status; 0 past the last.
+fn of_kind(kind: Kind, packets: usize, numbers: &[u32]) -> Numbers
+    ensures { λ r. ⌜ r ≡ numbered (layout kind .status) packets (now (numbers .entry)) ⌝ }
 {
     let row = row_of(kind);
     Numbers {
         status: row.status,
         packets,
-        first: ns[0],
-        second: ns[1],
-        third: ns[2],
-        fourth: ns[3],
-        fifth: ns[4],
-        sixth: ns[5],
-        seventh: ns[6],
-        eighth: ns[7],
-        ninth: ns[8],
+        first: nth(numbers, 0),
+        second: nth(numbers, 1),
+        third: nth(numbers, 2),
+        fourth: nth(numbers, 3),
+        fifth: nth(numbers, 4),
+        sixth: nth(numbers, 5),
+        seventh: nth(numbers, 6),
+        eighth: nth(numbers, 7),
+        ninth: nth(numbers, 8),
     }
 }
 
@@ -46,10 +57,8 @@ pub fn of_endpoint_discovery(e: EndpointDiscovery) -> Numbers
         e.request_endpoint_name as u32,
         e.request_product_instance_id as u32,
         e.request_stream_configuration as u32,
-        0,
-        0,
     ];
-    of_kind(Kind::EndpointDiscovery, 1, ns)
+    of_kind(Kind::EndpointDiscovery, 1, &ns)
 }
 
 pub fn of_endpoint_info(e: EndpointInfo) -> Numbers
@@ -64,9 +73,8 @@ pub fn of_endpoint_info(e: EndpointInfo) -> Numbers
         e.supports_receiving_jr_timestamps as u32,
         e.supports_sending_jr_timestamps as u32,
         e.number_of_function_blocks as u32,
-        0,
     ];
-    of_kind(Kind::EndpointInfo, 1, ns)
+    of_kind(Kind::EndpointInfo, 1, &ns)
 }
 
 pub fn of_device_identity(e: DeviceIdentity) -> Numbers
@@ -83,7 +91,7 @@ pub fn of_device_identity(e: DeviceIdentity) -> Numbers
         e.software_version.2 as u32,
         e.software_version.3 as u32,
     ];
-    of_kind(Kind::DeviceIdentity, 1, ns)
+    of_kind(Kind::DeviceIdentity, 1, &ns)
 }
 
 pub fn of_function_block_info(e: FunctionBlockInfo) -> Numbers
@@ -103,14 +111,14 @@ pub fn of_function_block_info(e: FunctionBlockInfo) -> Numbers
         e.midi_ci_version as u32,
         e.max_number_of_midi_ci_streams as u32,
     ];
-    of_kind(Kind::FunctionBlockInfo, 1, ns)
+    of_kind(Kind::FunctionBlockInfo, 1, &ns)
 }
 
 // A text kind: its packets, and the number of a block name.
 pub fn of_text(kind: Kind, packets: usize, number: u32) -> Numbers
     ensures { λ r. ⌜ r ≡ oneNumber (layout kind .status) packets number ⌝ }
 {
-    of_kind(kind, packets, [number, 0, 0, 0, 0, 0, 0, 0, 0])
+    of_kind(kind, packets, &[number])
 }
 
 // No record: where a call is refused.

@@ -5,10 +5,14 @@ use kinds::choices::Midi1Port;
 use kinds::choices::UiHint;
 use kinds::refusal::Refusal;
 use records::answers::Answer;
+use settings::choices;
 use settings::device_identity;
-use settings::endpoint_discovery;
-use settings::endpoint_info;
-use settings::function_block_info;
+use settings::named::set_flag;
+use settings::named::set_number;
+use settings::named::set_pair;
+use table::names::FlagName;
+use table::names::NumberName;
+use table::names::PairName;
 use text_settings::endpoint_name;
 use text_settings::function_block_name;
 use text_settings::product_instance_id;
@@ -44,26 +48,26 @@ fn direction(n: u32) -> Direction {
 
 fn discovery(words: &mut [u32], i: usize, n: u32) -> Answer {
     match i {
-        0 => endpoint_discovery::set_ump_version_major(words, n),
-        1 => endpoint_discovery::set_ump_version_minor(words, n),
-        2 => endpoint_discovery::set_request_endpoint_info(words, on(n)),
-        3 => endpoint_discovery::set_request_device_identity(words, on(n)),
-        4 => endpoint_discovery::set_request_endpoint_name(words, on(n)),
-        5 => endpoint_discovery::set_request_product_instance_id(words, on(n)),
-        _ => endpoint_discovery::set_request_stream_configuration(words, on(n)),
+        0 => set_number(words, NumberName::DiscoveryVersionMajor, n),
+        1 => set_number(words, NumberName::DiscoveryVersionMinor, n),
+        2 => set_flag(words, FlagName::RequestEndpointInfo, on(n)),
+        3 => set_flag(words, FlagName::RequestDeviceIdentity, on(n)),
+        4 => set_flag(words, FlagName::RequestEndpointName, on(n)),
+        5 => set_flag(words, FlagName::RequestProductInstanceId, on(n)),
+        _ => set_flag(words, FlagName::RequestStreamConfiguration, on(n)),
     }
 }
 
 fn info(words: &mut [u32], i: usize, n: u32) -> Answer {
     match i {
-        0 => endpoint_info::set_ump_version_major(words, n),
-        1 => endpoint_info::set_ump_version_minor(words, n),
-        2 => endpoint_info::set_static_function_blocks(words, on(n)),
-        3 => endpoint_info::set_supports_midi2_protocol(words, on(n)),
-        4 => endpoint_info::set_supports_midi1_protocol(words, on(n)),
-        5 => endpoint_info::set_supports_receiving_jr_timestamps(words, on(n)),
-        6 => endpoint_info::set_supports_sending_jr_timestamps(words, on(n)),
-        _ => endpoint_info::set_number_of_function_blocks(words, n),
+        0 => set_number(words, NumberName::InfoVersionMajor, n),
+        1 => set_number(words, NumberName::InfoVersionMinor, n),
+        2 => set_flag(words, FlagName::StaticFunctionBlocks, on(n)),
+        3 => set_flag(words, FlagName::SupportsMidi2Protocol, on(n)),
+        4 => set_flag(words, FlagName::SupportsMidi1Protocol, on(n)),
+        5 => set_flag(words, FlagName::SupportsReceivingJrTimestamps, on(n)),
+        6 => set_flag(words, FlagName::SupportsSendingJrTimestamps, on(n)),
+        _ => set_number(words, NumberName::NumberOfFunctionBlocks, n),
     }
 }
 
@@ -71,23 +75,23 @@ fn identity(words: &mut [u32], i: usize, v: Values) -> Answer {
     let n = v.numbers;
     match i {
         0 => device_identity::set_device_manufacturer(words, n[0], n[1], n[2]),
-        1 => device_identity::set_device_family(words, n[3]),
-        2 => device_identity::set_device_family_model_number(words, n[4]),
+        1 => set_pair(words, PairName::DeviceFamily, n[3]),
+        2 => set_pair(words, PairName::DeviceFamilyModelNumber, n[4]),
         _ => device_identity::set_software_version(words, n[5], n[6], n[7], n[8]),
     }
 }
 
 fn block_info(words: &mut [u32], i: usize, n: u32) -> Answer {
     match i {
-        0 => function_block_info::set_active(words, on(n)),
-        1 => function_block_info::set_function_block_number(words, n),
-        2 => function_block_info::set_ui_hint(words, hint(n)),
-        3 => function_block_info::set_midi1_port(words, port(n)),
-        4 => function_block_info::set_direction(words, direction(n)),
-        5 => function_block_info::set_first_group(words, n),
-        6 => function_block_info::set_number_of_groups_spanned(words, n),
-        7 => function_block_info::set_midi_ci_version(words, n),
-        _ => function_block_info::set_max_number_of_midi_ci_streams(words, n),
+        0 => set_flag(words, FlagName::Active, on(n)),
+        1 => set_number(words, NumberName::FunctionBlockNumber, n),
+        2 => choices::set_ui_hint(words, hint(n)),
+        3 => choices::set_midi1_port(words, port(n)),
+        4 => choices::set_direction(words, direction(n)),
+        5 => set_number(words, NumberName::FirstGroup, n),
+        6 => set_number(words, NumberName::NumberOfGroupsSpanned, n),
+        7 => set_number(words, NumberName::MidiCiVersion, n),
+        _ => set_number(words, NumberName::MaxNumberOfMidiCiStreams, n),
     }
 }
 

@@ -8,8 +8,10 @@ use native.Mathlib.Omega.{arith}
 use lib.ListN.{length, take}
 use lib.Seq.{take-all}
 use Rattle.laws.specs.Pick.{pick}
-use Rattle.laws.specs.Lists.{tabulate, nonzero}
+use Rattle.laws.specs.Lists.{map, tabulate, nonzero}
 use Rattle.laws.proofs.Pick.{past}
+use Rattle.slots.specs.Slots.{get, those}
+use Rattle.bit_ops.specs.Parts.{partIn}
 use Rattle.utf8.specs.Utf8.{firstBad}
 use Rattle.utf8.specs.declared.Utf8.{Utf8}
 use Rattle.utf8.specs.declared.Utf8.the-variants.{Good, BadAt}
@@ -17,13 +19,20 @@ use Rattle.text.specs.Bytes.{allBytes, textOf}
 use Rattle.text_check.specs.FastCheck.{isGood}
 use Rattle.kinds.specs.declared.kind.Kind.{Kind}
 use Rattle.kinds.specs.declared.refusal.Refusal.the-variants.{NotUtf8}
-use Rattle.kinds.specs.Layout.{layout, hasText}
+use Rattle.kinds.specs.Fields.{same, decided, joined}
+use Rattle.kinds.specs.Layout.{layout, hasText, held, valuesIn}
 use Rattle.records.specs.declared.answers.Read.the-variants as R
 use Rattle.records.specs.declared.message.Message.{Message}
+use Rattle.records.specs.Records.{recordOf}
 use Rattle.standard.specs.Heads.{packetsOf}
 use Rattle.standard.specs.Reading.{messageAt, textAt, isBad, readBody}
 use Rattle.reading.specs.Bodies.{offsetOf}
 use Rattle.reading.proofs.TextRows.{choiceless, port-passed, direction-passed, fixed-capacity, text-capacity, text-free}
+
+-- to unfold this is to unfold what computes the values of a kind from its words
+unfoldable pub fromWords : Unit {0}
+unfolding recordOf valuesIn layout those map held joined same decided get partIn
+fromWords = tt
 
 bad-not-good : (u : Utf8) → isBad u ≡ not (isGood u)
 bad-not-good Good = refl

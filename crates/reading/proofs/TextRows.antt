@@ -16,8 +16,8 @@ use Rattle.kinds.specs.declared.kind.Kind.the-variants as K
 use Rattle.kinds.specs.Choices.{noPort, noDirection}
 use Rattle.kinds.specs.Fields.{Field, same, decided, start}
 use Rattle.kinds.specs.Layout.{Part, Body, fixed, texts, layout, capacityIn, capacityOf, mostIn, hasText, none, slotsOf, held, valuesIn, rightBody}
-use Rattle.kinds.proofs.Rows.{row-right}
-use Rattle.kinds.proofs.Homes.{everyKind, at-kind, one-status}
+use Rattle.kinds.proofs.Rows.{everyKind, at-kind, row-right}
+use Rattle.kinds.proofs.Homes.{one-status}
 use Rattle.table.specs.declared.rows.Row.{Row}
 use Rattle.table.specs.Rows.{RowIs, offsetIn, tableRow}
 use Rattle.standard.specs.Reading.{codeAt}

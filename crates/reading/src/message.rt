@@ -7,16 +7,10 @@ ghost use Rattle.standard.specs.Heads.{packetsOf};
 ghost use Rattle.standard.specs.Reading.{readBody, readKind, readOf};
 ghost use Rattle.reading.specs.Bodies.{fieldsRead, rulesRead};
 ghost use Rattle.reading.specs.OnePass.{headsRight};
-use crate::device_identity;
-use crate::endpoint_discovery;
-use crate::endpoint_info;
-use crate::endpoint_name;
-use crate::function_block_info;
-use crate::function_block_name;
+use crate::from_words;
 use crate::heads::status_of;
 use crate::one_pass::headed_packets;
 use crate::one_pass::offset_of;
-use crate::product_instance_id;
 use crate::rules::Rule;
 use crate::rules::first_broken;
 use counts::PacketNumber;
@@ -42,25 +36,25 @@ fn read_body(kind: Kind, words: &[u32]) -> Read
     ensures { λ r. ⌜ r ≡ readBody kind (now (words .entry)) ⌝ }
 {
     match kind {
-        Kind::EndpointDiscovery => Read::Message(endpoint_discovery::message(words)),
-        Kind::EndpointInfo => Read::Message(endpoint_info::message(words)),
-        Kind::DeviceIdentity => Read::Message(device_identity::message(words)),
+        Kind::EndpointDiscovery => Read::Message(from_words::endpoint_discovery(words)),
+        Kind::EndpointInfo => Read::Message(from_words::endpoint_info(words)),
+        Kind::DeviceIdentity => Read::Message(from_words::device_identity(words)),
         Kind::EndpointName => {
             if good_text(&words[0..], offset_of(kind)) {
-                return Read::Message(endpoint_name::message(words));
+                return Read::Message(from_words::endpoint_name(words));
             }
             Read::Refused(Refusal::NotUtf8)
         }
         Kind::ProductInstanceId => {
             if good_text(&words[0..], offset_of(kind)) {
-                return Read::Message(product_instance_id::message(words));
+                return Read::Message(from_words::product_instance_id(words));
             }
             Read::Refused(Refusal::NotUtf8)
         }
-        Kind::FunctionBlockInfo => function_block_info::read(words),
+        Kind::FunctionBlockInfo => from_words::read_function_block_info(words),
         Kind::FunctionBlockName => {
             if good_text(&words[0..], offset_of(kind)) {
-                return Read::Message(function_block_name::message(words));
+                return Read::Message(from_words::function_block_name(words));
             }
             Read::Refused(Refusal::NotUtf8)
         }

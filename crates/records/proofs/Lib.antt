@@ -1,6 +1,5 @@
 pub mod Records
 pub mod Settings
-pub mod Others
+pub mod Methods
 pub mod Promises
-pub mod Numbers
 pub mod With

@@ -7,25 +7,24 @@ use mathlib.Core.List.{List, [], _∷_}
 use lib.ListN.{getD}
 use lib.Dec.{eqb}
 use Rattle.laws.specs.Pick.{pick, both}
-use Rattle.laws.specs.Lists.{map, each}
+use Rattle.laws.specs.Lists.{each}
 use Rattle.laws.proofs.Pick.{never, split}
 use Rattle.kinds.specs.declared.kind.Kind.{Kind}
-use Rattle.kinds.specs.declared.kind.Kind.the-variants as K
 use Rattle.kinds.specs.declared.refusal.Refusal.{Refusal}
 use Rattle.kinds.specs.declared.refusal.Refusal.the-variants.{NumberTooLarge, NoSuchField}
-use Rattle.kinds.specs.Choices.{hintCode, hintOf, portCode, portOf, directionCode, directionOf}
-use Rattle.kinds.specs.Fields.{Text, Field, Setting, same, decided, fieldIn, valueIn, bit, start}
+use Rattle.kinds.specs.Fields.{Text, Field, Setting, same, decided, fieldIn, valueIn}
 use Rattle.kinds.specs.Layout.{layout}
 use Rattle.kinds.proofs.Codes.{bit-flag, hint-back, port-back, direction-back}
+use Rattle.kinds.proofs.Rows.{everyKind, at-kind}
 use Rattle.kinds.proofs.Homes.{eachField, each-field}
-use Rattle.kinds.proofs.Fields.{same-true, same-refl}
+use Rattle.kinds.proofs.Fields.{same-refl}
 use Rattle.records.specs.declared.message.Message.{Message}
 use Rattle.records.specs.declared.message.Message.the-variants as M
 use Rattle.records.specs.declared.answers.Answer.the-variants as A
 use Rattle.records.specs.declared.answers.Edited.{Edited}
-use Rattle.records.specs.Records.{Valued, kindIn, packetsIn, recordOf, fieldsIn, lookup, valuesOf, firstPart, inOrder}
+use Rattle.records.specs.Records.{kindIn, packetsIn, recordOf, valuesOf, firstPart, inOrder}
 use Rattle.records.specs.Settings.{with, lacks, tooLarge, edited, setRecord, setEdited, followed}
-use Rattle.records.proofs.Records.{record-back, record-kind}
+use Rattle.records.proofs.Records.{again, isIn, values-kept, record-back, record-kind}
 use Rattle.records.proofs.Settings.{lacking, too-large, made, no-text}
 
 -- ---- the three outcomes
@@ -51,19 +50,7 @@ module _ (s : Setting) (m : Message) where
 pub text-refused : (t : Text) (bytes : List ℕ) (m : Message) → setRecord (Setting.text t bytes) m ≡ edited m (A.Refused NoSuchField)
 text-refused t bytes m = sym (no-text t bytes m)
 
--- ---- what a record keeps of a field's value
-again : Field → List ℕ → List ℕ
-again (Field.flag f) v = bit (eqb (getD v 0 0) 1) ∷ []
-again (Field.number n) v = getD v 0 0 ∷ []
-again (Field.pair p) v = getD v 0 0 ∷ []
-again Field.ui-hint v = hintCode (hintOf (getD v 0 0)) ∷ []
-again Field.midi1-port v = portCode (portOf (getD v 0 0)) ∷ []
-again Field.direction v = directionCode (directionOf (getD v 0 0)) ∷ []
-again Field.device-manufacturer v = getD v 0 0 ∷ getD v 1 0 ∷ getD v 2 0 ∷ []
-again Field.software-version v = getD v 0 0 ∷ getD v 1 0 ∷ getD v 2 0 ∷ getD v 3 0 ∷ []
-again (Field.text t) v = v
-
--- all of a value that can be set
+-- ---- a setting's value is kept whole
 again-all : (s : Setting) → again (fieldIn s) (valueIn s) ≡ valueIn s
 unfolding again
 again-all (Setting.flag f b) = rw (bit-flag b)
@@ -76,47 +63,10 @@ again-all (Setting.device-manufacturer a b c) = refl
 again-all (Setting.software-version a b c d) = refl
 again-all (Setting.text t bytes) = refl
 
--- a record has the table's fields, in its order
-kept : (Field → List ℕ) → Field → Valued
-kept w f = record { field = f; value = w f }
-
-fields-kept : (k : Kind) (n : ℕ) (v : Field → List ℕ) → fieldsIn (recordOf k n v) ≡ map (kept (λ f. again f (v f))) (inOrder k)
-unfolding fieldsIn recordOf map each firstPart layout again kept
-fields-kept K.EndpointDiscovery n v = refl
-fields-kept K.EndpointInfo n v = refl
-fields-kept K.DeviceIdentity n v = refl
-fields-kept K.EndpointName n v = refl
-fields-kept K.ProductInstanceId n v = refl
-fields-kept K.FunctionBlockInfo n v = refl
-fields-kept K.FunctionBlockName n v = refl
-
--- ---- a value looked up
-isIn : Field → List Field → Bool
-isIn g [] = false
-isIn g (f ∷ fs) = pick (same f g) true (isIn g fs)
-
-lookup-kept : (w : Field → List ℕ) (fs : List Field) (g : Field) → lookup (map (kept w) fs) g ≡ pick (isIn g fs) (w g) (start g)
-unfolding lookup map isIn kept
-lookup-kept w [] g = refl
-lookup-kept w (f ∷ fs) g = go (same f g) refl (lookup-kept w fs g)
-  where
-    go : (b : Bool) → same f g ≡ b → lookup (map (kept w) fs) g ≡ pick (isIn g fs) (w g) (start g) → pick b (w f) (lookup (map (kept w) fs) g) ≡ pick (pick b true (isIn g fs)) (w g) (start g)
-    go true q ih = ap w (same-true f g q)
-    go false q ih = ih
-
-values-kept : (k : Kind) (n : ℕ) (v : Field → List ℕ) (g : Field) → valuesOf (recordOf k n v) g ≡ pick (isIn g (inOrder k)) (again g (v g)) (start g)
-values-kept k n v g = ap (λ (xs : List Valued). lookup xs g) (fields-kept k n v) ∙ lookup-kept (λ f. again f (v f)) (inOrder k) g
-
 -- a field that the table has is one of the record
 rows-in : (k : Kind) → eachField (λ f. isIn f (inOrder k)) (layout k .fields) ≡ true
-unfolding eachField isIn layout each firstPart same decided both
-rows-in K.EndpointDiscovery = refl
-rows-in K.EndpointInfo = refl
-rows-in K.DeviceIdentity = refl
-rows-in K.EndpointName = refl
-rows-in K.ProductInstanceId = refl
-rows-in K.FunctionBlockInfo = refl
-rows-in K.FunctionBlockName = refl
+unfolding everyKind eachField isIn layout each firstPart same decided both
+rows-in k = at-kind (λ j. eachField (λ f. isIn f (inOrder j)) (layout j .fields)) refl k
 
 new-packets : (m : Message) (v : Field → List ℕ) → packetsIn (recordOf (kindIn m) (packetsIn m) v) ≡ packetsIn m
 unfolding recordOf

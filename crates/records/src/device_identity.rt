@@ -1,11 +1,8 @@
 // Status 0x02: who made a device, and which it is.
+use crate::answers;
 use crate::answers::Edited;
-use crate::answers::done;
-use crate::answers::no_such_field;
-use crate::answers::then;
-use crate::answers::too_large;
 use crate::message::Message;
-use crate::named::then_pair;
+use crate::named;
 use table::names::PairName;
 ghost use mathlib.Core.Path.{_≡_};
 ghost use mathlib.Core.Bool.{not};
@@ -48,43 +45,43 @@ impl Message {
         ensures { λ r. ⌜ r ≡ setRecord (Setting.device-manufacturer first second third) self ⌝ }
     {
         let Message::DeviceIdentity(mut identity) = self else {
-            return no_such_field(self);
+            return answers::no_such_field(self);
         };
         if any_above_127(first, second, third, 0) {
-            return too_large(self);
+            return answers::too_large(self);
         }
         let numbers = Manufacturer(first as u8, second as u8, third as u8);
         identity.device_manufacturer = numbers;
         self = Message::DeviceIdentity(identity);
-        done(self)
+        answers::done(self)
     }
 
     pub fn set_device_family(mut self, number: u32) -> Edited
         ensures { λ r. ⌜ r ≡ setRecord (Setting.pair Pair.device-family number) self ⌝ }
     {
         let Message::DeviceIdentity(mut identity) = self else {
-            return no_such_field(self);
+            return answers::no_such_field(self);
         };
         if number > 16383 {
-            return too_large(self);
+            return answers::too_large(self);
         }
         identity.device_family = number as u16;
         self = Message::DeviceIdentity(identity);
-        done(self)
+        answers::done(self)
     }
 
     pub fn set_device_family_model_number(mut self, number: u32) -> Edited
         ensures { λ r. ⌜ r ≡ setRecord (Setting.pair Pair.device-family-model-number number) self ⌝ }
     {
         let Message::DeviceIdentity(mut identity) = self else {
-            return no_such_field(self);
+            return answers::no_such_field(self);
         };
         if number > 16383 {
-            return too_large(self);
+            return answers::too_large(self);
         }
         identity.device_family_model_number = number as u16;
         self = Message::DeviceIdentity(identity);
-        done(self)
+        answers::done(self)
     }
 
     pub fn set_software_version(
@@ -97,15 +94,15 @@ impl Message {
         ensures { λ r. ⌜ r ≡ setRecord (Setting.software-version first second third fourth) self ⌝ }
     {
         let Message::DeviceIdentity(mut identity) = self else {
-            return no_such_field(self);
+            return answers::no_such_field(self);
         };
         if any_above_127(first, second, third, fourth) {
-            return too_large(self);
+            return answers::too_large(self);
         }
         let numbers = SoftwareVersion(first as u8, second as u8, third as u8, fourth as u8);
         identity.software_version = numbers;
         self = Message::DeviceIdentity(identity);
-        done(self)
+        answers::done(self)
     }
 }
 
@@ -115,25 +112,25 @@ impl Edited {
         ensures { λ r. ⌜ r ≡ setEdited (Setting.device-manufacturer first second third) self ⌝ }
     {
         let m = self.message;
-        then(self, m.set_device_manufacturer(first, second, third))
+        answers::then(self, m.set_device_manufacturer(first, second, third))
     }
 
     pub fn set_device_family(self, number: u32) -> Edited
         ensures { λ r. ⌜ r ≡ setEdited (Setting.pair Pair.device-family number) self ⌝ }
     {
-        then_pair(self, PairName::DeviceFamily, number)
+        named::then_pair(self, PairName::DeviceFamily, number)
     }
 
     pub fn set_device_family_model_number(self, number: u32) -> Edited
         ensures { λ r. ⌜ r ≡ setEdited (Setting.pair Pair.device-family-model-number number) self ⌝ }
     {
-        then_pair(self, PairName::DeviceFamilyModelNumber, number)
+        named::then_pair(self, PairName::DeviceFamilyModelNumber, number)
     }
 
     pub fn set_software_version(self, first: u32, second: u32, third: u32, fourth: u32) -> Edited
         ensures { λ r. ⌜ r ≡ setEdited (Setting.software-version first second third fourth) self ⌝ }
     {
         let m = self.message;
-        then(self, m.set_software_version(first, second, third, fourth))
+        answers::then(self, m.set_software_version(first, second, third, fourth))
     }
 }

@@ -1,9 +1,8 @@
 // Status 0x00: a host asks what an endpoint is. The settings of its version stand in ump_version.rt.
+use crate::answers;
 use crate::answers::Edited;
-use crate::answers::done;
-use crate::answers::no_such_field;
 use crate::message::Message;
-use crate::named::then_flag;
+use crate::named;
 use table::names::FlagName;
 ghost use mathlib.Core.Path.{_≡_};
 ghost use Rattle.kinds.specs.Fields.{Flag, Setting};
@@ -25,55 +24,55 @@ impl Message {
         ensures { λ r. ⌜ r ≡ setRecord (Setting.flag Flag.request-endpoint-info on) self ⌝ }
     {
         let Message::EndpointDiscovery(mut discovery) = self else {
-            return no_such_field(self);
+            return answers::no_such_field(self);
         };
         discovery.request_endpoint_info = on;
         self = Message::EndpointDiscovery(discovery);
-        done(self)
+        answers::done(self)
     }
 
     pub fn set_request_device_identity(mut self, on: bool) -> Edited
         ensures { λ r. ⌜ r ≡ setRecord (Setting.flag Flag.request-device-identity on) self ⌝ }
     {
         let Message::EndpointDiscovery(mut discovery) = self else {
-            return no_such_field(self);
+            return answers::no_such_field(self);
         };
         discovery.request_device_identity = on;
         self = Message::EndpointDiscovery(discovery);
-        done(self)
+        answers::done(self)
     }
 
     pub fn set_request_endpoint_name(mut self, on: bool) -> Edited
         ensures { λ r. ⌜ r ≡ setRecord (Setting.flag Flag.request-endpoint-name on) self ⌝ }
     {
         let Message::EndpointDiscovery(mut discovery) = self else {
-            return no_such_field(self);
+            return answers::no_such_field(self);
         };
         discovery.request_endpoint_name = on;
         self = Message::EndpointDiscovery(discovery);
-        done(self)
+        answers::done(self)
     }
 
     pub fn set_request_product_instance_id(mut self, on: bool) -> Edited
         ensures { λ r. ⌜ r ≡ setRecord (Setting.flag Flag.request-product-instance-id on) self ⌝ }
     {
         let Message::EndpointDiscovery(mut discovery) = self else {
-            return no_such_field(self);
+            return answers::no_such_field(self);
         };
         discovery.request_product_instance_id = on;
         self = Message::EndpointDiscovery(discovery);
-        done(self)
+        answers::done(self)
     }
 
     pub fn set_request_stream_configuration(mut self, on: bool) -> Edited
         ensures { λ r. ⌜ r ≡ setRecord (Setting.flag Flag.request-stream-configuration on) self ⌝ }
     {
         let Message::EndpointDiscovery(mut discovery) = self else {
-            return no_such_field(self);
+            return answers::no_such_field(self);
         };
         discovery.request_stream_configuration = on;
         self = Message::EndpointDiscovery(discovery);
-        done(self)
+        answers::done(self)
     }
 }
 
@@ -82,30 +81,30 @@ impl Edited {
     pub fn set_request_endpoint_info(self, on: bool) -> Edited
         ensures { λ r. ⌜ r ≡ setEdited (Setting.flag Flag.request-endpoint-info on) self ⌝ }
     {
-        then_flag(self, FlagName::RequestEndpointInfo, on)
+        named::then_flag(self, FlagName::RequestEndpointInfo, on)
     }
 
     pub fn set_request_device_identity(self, on: bool) -> Edited
         ensures { λ r. ⌜ r ≡ setEdited (Setting.flag Flag.request-device-identity on) self ⌝ }
     {
-        then_flag(self, FlagName::RequestDeviceIdentity, on)
+        named::then_flag(self, FlagName::RequestDeviceIdentity, on)
     }
 
     pub fn set_request_endpoint_name(self, on: bool) -> Edited
         ensures { λ r. ⌜ r ≡ setEdited (Setting.flag Flag.request-endpoint-name on) self ⌝ }
     {
-        then_flag(self, FlagName::RequestEndpointName, on)
+        named::then_flag(self, FlagName::RequestEndpointName, on)
     }
 
     pub fn set_request_product_instance_id(self, on: bool) -> Edited
         ensures { λ r. ⌜ r ≡ setEdited (Setting.flag Flag.request-product-instance-id on) self ⌝ }
     {
-        then_flag(self, FlagName::RequestProductInstanceId, on)
+        named::then_flag(self, FlagName::RequestProductInstanceId, on)
     }
 
     pub fn set_request_stream_configuration(self, on: bool) -> Edited
         ensures { λ r. ⌜ r ≡ setEdited (Setting.flag Flag.request-stream-configuration on) self ⌝ }
     {
-        then_flag(self, FlagName::RequestStreamConfiguration, on)
+        named::then_flag(self, FlagName::RequestStreamConfiguration, on)
     }
 }

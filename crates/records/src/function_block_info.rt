@@ -1,12 +1,8 @@
 // Status 0x11: one function block of an endpoint, with its three named choices.
+use crate::answers;
 use crate::answers::Edited;
-use crate::answers::done;
-use crate::answers::no_such_field;
-use crate::answers::then;
-use crate::answers::too_large;
 use crate::message::Message;
-use crate::named::then_flag;
-use crate::named::then_number;
+use crate::named;
 use kinds::choices::Direction;
 use kinds::choices::Midi1Port;
 use kinds::choices::UiHint;
@@ -56,117 +52,117 @@ impl Message {
         ensures { λ r. ⌜ r ≡ setRecord (Setting.flag Flag.active on) self ⌝ }
     {
         let Message::FunctionBlockInfo(mut block) = self else {
-            return no_such_field(self);
+            return answers::no_such_field(self);
         };
         block.active = on;
         self = Message::FunctionBlockInfo(block);
-        done(self)
+        answers::done(self)
     }
 
     pub fn set_function_block_number(mut self, number: u32) -> Edited
         ensures { λ r. ⌜ r ≡ setRecord (Setting.number Number.function-block-number number) self ⌝ }
     {
         let Message::FunctionBlockInfo(mut block) = self else {
-            return no_such_field(self);
+            return answers::no_such_field(self);
         };
         if number > 127 {
-            return too_large(self);
+            return answers::too_large(self);
         }
         block.function_block_number = number as u8;
         self = Message::FunctionBlockInfo(block);
-        done(self)
+        answers::done(self)
     }
 
     pub fn set_ui_hint(mut self, hint: UiHint) -> Edited
         ensures { λ r. ⌜ r ≡ setRecord (Setting.ui-hint hint) self ⌝ }
     {
         let Message::FunctionBlockInfo(block) = self else {
-            return no_such_field(self);
+            return answers::no_such_field(self);
         };
         let port = block.midi1_port;
         let direction = block.direction;
         self = Message::FunctionBlockInfo(chosen(block, hint, port, direction));
-        done(self)
+        answers::done(self)
     }
 
     pub fn set_midi1_port(mut self, port: Midi1Port) -> Edited
         ensures { λ r. ⌜ r ≡ setRecord (Setting.midi1-port port) self ⌝ }
     {
         let Message::FunctionBlockInfo(block) = self else {
-            return no_such_field(self);
+            return answers::no_such_field(self);
         };
         let hint = block.ui_hint;
         let direction = block.direction;
         self = Message::FunctionBlockInfo(chosen(block, hint, port, direction));
-        done(self)
+        answers::done(self)
     }
 
     pub fn set_direction(mut self, direction: Direction) -> Edited
         ensures { λ r. ⌜ r ≡ setRecord (Setting.direction direction) self ⌝ }
     {
         let Message::FunctionBlockInfo(block) = self else {
-            return no_such_field(self);
+            return answers::no_such_field(self);
         };
         let hint = block.ui_hint;
         let port = block.midi1_port;
         self = Message::FunctionBlockInfo(chosen(block, hint, port, direction));
-        done(self)
+        answers::done(self)
     }
 
     pub fn set_first_group(mut self, number: u32) -> Edited
         ensures { λ r. ⌜ r ≡ setRecord (Setting.number Number.first-group number) self ⌝ }
     {
         let Message::FunctionBlockInfo(mut block) = self else {
-            return no_such_field(self);
+            return answers::no_such_field(self);
         };
         if number > 15 {
-            return too_large(self);
+            return answers::too_large(self);
         }
         block.first_group = number as u8;
         self = Message::FunctionBlockInfo(block);
-        done(self)
+        answers::done(self)
     }
 
     pub fn set_number_of_groups_spanned(mut self, number: u32) -> Edited
         ensures { λ r. ⌜ r ≡ setRecord (Setting.number Number.number-of-groups-spanned number) self ⌝ }
     {
         let Message::FunctionBlockInfo(mut block) = self else {
-            return no_such_field(self);
+            return answers::no_such_field(self);
         };
         if number > 255 {
-            return too_large(self);
+            return answers::too_large(self);
         }
         block.number_of_groups_spanned = number as u8;
         self = Message::FunctionBlockInfo(block);
-        done(self)
+        answers::done(self)
     }
 
     pub fn set_midi_ci_version(mut self, number: u32) -> Edited
         ensures { λ r. ⌜ r ≡ setRecord (Setting.number Number.midi-ci-version number) self ⌝ }
     {
         let Message::FunctionBlockInfo(mut block) = self else {
-            return no_such_field(self);
+            return answers::no_such_field(self);
         };
         if number > 255 {
-            return too_large(self);
+            return answers::too_large(self);
         }
         block.midi_ci_version = number as u8;
         self = Message::FunctionBlockInfo(block);
-        done(self)
+        answers::done(self)
     }
 
     pub fn set_max_number_of_midi_ci_streams(mut self, number: u32) -> Edited
         ensures { λ r. ⌜ r ≡ setRecord (Setting.number Number.max-number-of-midi-ci-streams number) self ⌝ }
     {
         let Message::FunctionBlockInfo(mut block) = self else {
-            return no_such_field(self);
+            return answers::no_such_field(self);
         };
         if number > 255 {
-            return too_large(self);
+            return answers::too_large(self);
         }
         block.max_number_of_midi_ci_streams = number as u8;
         self = Message::FunctionBlockInfo(block);
-        done(self)
+        answers::done(self)
     }
 }
 
@@ -175,57 +171,57 @@ impl Edited {
     pub fn set_active(self, on: bool) -> Edited
         ensures { λ r. ⌜ r ≡ setEdited (Setting.flag Flag.active on) self ⌝ }
     {
-        then_flag(self, FlagName::Active, on)
+        named::then_flag(self, FlagName::Active, on)
     }
 
     pub fn set_function_block_number(self, number: u32) -> Edited
         ensures { λ r. ⌜ r ≡ setEdited (Setting.number Number.function-block-number number) self ⌝ }
     {
-        then_number(self, NumberName::FunctionBlockNumber, number)
+        named::then_number(self, NumberName::FunctionBlockNumber, number)
     }
 
     pub fn set_ui_hint(self, hint: UiHint) -> Edited
         ensures { λ r. ⌜ r ≡ setEdited (Setting.ui-hint hint) self ⌝ }
     {
         let m = self.message;
-        then(self, m.set_ui_hint(hint))
+        answers::then(self, m.set_ui_hint(hint))
     }
 
     pub fn set_midi1_port(self, port: Midi1Port) -> Edited
         ensures { λ r. ⌜ r ≡ setEdited (Setting.midi1-port port) self ⌝ }
     {
         let m = self.message;
-        then(self, m.set_midi1_port(port))
+        answers::then(self, m.set_midi1_port(port))
     }
 
     pub fn set_direction(self, direction: Direction) -> Edited
         ensures { λ r. ⌜ r ≡ setEdited (Setting.direction direction) self ⌝ }
     {
         let m = self.message;
-        then(self, m.set_direction(direction))
+        answers::then(self, m.set_direction(direction))
     }
 
     pub fn set_first_group(self, number: u32) -> Edited
         ensures { λ r. ⌜ r ≡ setEdited (Setting.number Number.first-group number) self ⌝ }
     {
-        then_number(self, NumberName::FirstGroup, number)
+        named::then_number(self, NumberName::FirstGroup, number)
     }
 
     pub fn set_number_of_groups_spanned(self, number: u32) -> Edited
         ensures { λ r. ⌜ r ≡ setEdited (Setting.number Number.number-of-groups-spanned number) self ⌝ }
     {
-        then_number(self, NumberName::NumberOfGroupsSpanned, number)
+        named::then_number(self, NumberName::NumberOfGroupsSpanned, number)
     }
 
     pub fn set_midi_ci_version(self, number: u32) -> Edited
         ensures { λ r. ⌜ r ≡ setEdited (Setting.number Number.midi-ci-version number) self ⌝ }
     {
-        then_number(self, NumberName::MidiCiVersion, number)
+        named::then_number(self, NumberName::MidiCiVersion, number)
     }
 
     pub fn set_max_number_of_midi_ci_streams(self, number: u32) -> Edited
         ensures { λ r. ⌜ r ≡ setEdited (Setting.number Number.max-number-of-midi-ci-streams number) self ⌝ }
     {
-        then_number(self, NumberName::MaxNumberOfMidiCiStreams, number)
+        named::then_number(self, NumberName::MaxNumberOfMidiCiStreams, number)
     }
 }

@@ -1,9 +1,6 @@
 // Status 0x12: the name of a function block. Its record is in the message itself: the block's number and the packets.
+use crate::answers;
 use crate::answers::Edited;
-use crate::answers::done;
-use crate::answers::no_such_field;
-use crate::answers::then;
-use crate::answers::too_large;
 use crate::message::Message;
 ghost use mathlib.Core.Path.{_≡_};
 ghost use Rattle.kinds.specs.Fields.{Number, Setting};
@@ -19,16 +16,16 @@ impl Message {
             packets,
         } = self
         else {
-            return no_such_field(self);
+            return answers::no_such_field(self);
         };
         if number > 255 {
-            return too_large(self);
+            return answers::too_large(self);
         }
         self = Message::FunctionBlockName {
             function_block: number as u8,
             packets,
         };
-        done(self)
+        answers::done(self)
     }
 }
 
@@ -38,6 +35,6 @@ impl Edited {
         ensures { λ r. ⌜ r ≡ setEdited (Setting.number Number.function-block number) self ⌝ }
     {
         let m = self.message;
-        then(self, m.set_function_block(number))
+        answers::then(self, m.set_function_block(number))
     }
 }

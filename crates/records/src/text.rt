@@ -1,7 +1,6 @@
 // Text is not in a record, so each setting of it is refused.
+use crate::answers;
 use crate::answers::Edited;
-use crate::answers::no_such_field;
-use crate::answers::then;
 use crate::message::Message;
 ghost use mathlib.Core.Path.{_≡_};
 ghost use Rattle.kinds.specs.Fields.{Setting, Text};
@@ -13,13 +12,13 @@ impl Message {
     pub fn set_name(mut self, text: &[u8]) -> Edited
         ensures { λ r. ⌜ r ≡ setRecord (Setting.text (nameOf (kindIn self)) (now (text .entry))) self ⌝ }
     {
-        no_such_field(self)
+        answers::no_such_field(self)
     }
 
     pub fn set_id(mut self, text: &[u8]) -> Edited
         ensures { λ r. ⌜ r ≡ setRecord (Setting.text Text.product-instance-id (now (text .entry))) self ⌝ }
     {
-        no_such_field(self)
+        answers::no_such_field(self)
     }
 }
 
@@ -29,13 +28,13 @@ impl Edited {
         ensures { λ r. ⌜ r ≡ setEdited (Setting.text (nameOf (kindIn (self .message))) (now (text .entry))) self ⌝ }
     {
         let m = self.message;
-        then(self, m.set_name(text))
+        answers::then(self, m.set_name(text))
     }
 
     pub fn set_id(self, text: &[u8]) -> Edited
         ensures { λ r. ⌜ r ≡ setEdited (Setting.text Text.product-instance-id (now (text .entry))) self ⌝ }
     {
         let m = self.message;
-        then(self, m.set_id(text))
+        answers::then(self, m.set_id(text))
     }
 }

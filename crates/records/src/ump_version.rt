@@ -1,10 +1,8 @@
 // The version of UMP: two numbers that a discovery and an endpoint info both have.
+use crate::answers;
 use crate::answers::Edited;
-use crate::answers::done;
-use crate::answers::no_such_field;
-use crate::answers::too_large;
 use crate::message::Message;
-use crate::named::then_number;
+use crate::named;
 use table::names::NumberName;
 ghost use mathlib.Core.Path.{_≡_};
 ghost use Rattle.kinds.specs.Fields.{Setting};
@@ -19,21 +17,21 @@ impl Message {
         match self {
             Message::EndpointDiscovery(mut discovery) => {
                 if number > 255 {
-                    return too_large(self);
+                    return answers::too_large(self);
                 }
                 discovery.ump_version_major = number as u8;
                 self = Message::EndpointDiscovery(discovery);
             }
             Message::EndpointInfo(mut info) => {
                 if number > 255 {
-                    return too_large(self);
+                    return answers::too_large(self);
                 }
                 info.ump_version_major = number as u8;
                 self = Message::EndpointInfo(info);
             }
-            _ => return no_such_field(self),
+            _ => return answers::no_such_field(self),
         }
-        done(self)
+        answers::done(self)
     }
 
     pub fn set_ump_version_minor(mut self, number: u32) -> Edited
@@ -42,21 +40,21 @@ impl Message {
         match self {
             Message::EndpointDiscovery(mut discovery) => {
                 if number > 255 {
-                    return too_large(self);
+                    return answers::too_large(self);
                 }
                 discovery.ump_version_minor = number as u8;
                 self = Message::EndpointDiscovery(discovery);
             }
             Message::EndpointInfo(mut info) => {
                 if number > 255 {
-                    return too_large(self);
+                    return answers::too_large(self);
                 }
                 info.ump_version_minor = number as u8;
                 self = Message::EndpointInfo(info);
             }
-            _ => return no_such_field(self),
+            _ => return answers::no_such_field(self),
         }
-        done(self)
+        answers::done(self)
     }
 }
 
@@ -65,12 +63,12 @@ impl Edited {
     pub fn set_ump_version_major(self, number: u32) -> Edited
         ensures { λ r. ⌜ r ≡ setEdited (Setting.number (majorOf (kindIn (self .message))) number) self ⌝ }
     {
-        then_number(self, NumberName::InfoVersionMajor, number)
+        named::then_number(self, NumberName::InfoVersionMajor, number)
     }
 
     pub fn set_ump_version_minor(self, number: u32) -> Edited
         ensures { λ r. ⌜ r ≡ setEdited (Setting.number (minorOf (kindIn (self .message))) number) self ⌝ }
     {
-        then_number(self, NumberName::InfoVersionMinor, number)
+        named::then_number(self, NumberName::InfoVersionMinor, number)
     }
 }

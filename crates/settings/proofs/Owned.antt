@@ -12,8 +12,9 @@ use Rattle.kinds.specs.declared.refusal.Refusal.{Refusal}
 use Rattle.kinds.specs.declared.refusal.Refusal.the-variants.{NoSuchField}
 use Rattle.kinds.specs.declared.kind.Kind.{Kind}
 use Rattle.kinds.specs.Fields.{Setting}
-use Rattle.kinds.specs.Layout.{layout}
-use Rattle.kinds.proofs.Homes.{one-status, everyKind, at-kind}
+use Rattle.kinds.specs.Layout.{layout, kinds}
+use Rattle.kinds.proofs.Rows.{everyKind, at-kind}
+use Rattle.kinds.proofs.Homes.{one-status}
 use Rattle.records.specs.declared.message.Message.{Message}
 use Rattle.records.specs.declared.answers.Walked.{Walked}
 use Rattle.records.specs.declared.answers.Walked.the-variants as W
@@ -37,7 +38,7 @@ alike-same false false e = refl
 
 -- ---- a setting whose field is of one kind alone
 unfoldable pub ownedBy : Kind → Setting → Bool
-ownedBy k s = everyKind (λ j. alike (missing (layout j) s) (differ (layout j .status) (layout k .status)))
+ownedBy k s = everyKind (λ j. alike (missing (layout j) s) (differ (layout j .status) (layout k .status))) kinds
 
 module _ (k : Kind) (s : Setting) (own : ownedBy k s ≡ true) where
   lacking : (j : Kind) → missing (layout j) s ≡ differ (layout j .status) (layout k .status)

@@ -17,7 +17,7 @@ use Rattle.kinds.specs.declared.refusal.Refusal.{Refusal}
 use Rattle.kinds.specs.declared.refusal.Refusal.the-variants.{NumberTooLarge}
 use Rattle.kinds.specs.Fields.{Setting, fieldIn, valueIn, textIn, partOf, same, decided}
 use Rattle.kinds.specs.Layout.{Part, Row, Body, fixed, layout, slotsOf, parts}
-use Rattle.kinds.proofs.Homes.{everyKind}
+use Rattle.kinds.proofs.Rows.{everyKind}
 use Rattle.records.specs.declared.answers.Answer.the-variants as A
 use Rattle.records.specs.Settings.{tooLarge}
 use Rattle.standard.specs.Heads.{packetsOf}

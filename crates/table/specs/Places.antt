@@ -1,13 +1,13 @@
 -- Where a slot of a table stands, by its number in the table's order.
 use Prim.Native.Nat.{ℕ}
 use mathlib.Core.Path.{_≡_}
-use mathlib.Core.List.{List, _++_}
+use mathlib.Core.List.{List}
 use lib.ListN.{getD}
+use Rattle.laws.specs.Lists.{each}
 use Rattle.slots.specs.Slots.{Slot}
 use Rattle.kinds.specs.Fields.{Field}
 use Rattle.kinds.specs.declared.kind.Kind.{Kind}
-use Rattle.kinds.specs.declared.kind.Kind.the-variants as K
-use Rattle.kinds.specs.Layout.{Part, discoveryFields, infoFields, identityFields, blockFields, nameFields}
+use Rattle.kinds.specs.Layout.{Part, layout, kinds}
 use Rattle.table.specs.declared.places.Place.{Place}
 
 -- past the last slot: one of no bits
@@ -17,18 +17,12 @@ noSlot = record { word = 0; at = 0; span = 0; key = record { field = Field.ui-hi
 abbrev pub slotAt : List (Slot Part) → ℕ → Slot Part
 slotAt t i = getD t i noSlot
 
--- the slots of all kinds, one kind after another, and where a kind's start
-abbrev pub everySlot : List (Slot Part)
-everySlot = discoveryFields ++ (infoFields ++ (identityFields ++ (blockFields ++ nameFields)))
+-- the slots of some kinds, one kind after another, and of all
+abbrev pub slotsOfKinds : List Kind → List (Slot Part)
+slotsOfKinds ks = each (λ k. layout k .fields) ks
 
-abbrev pub firstSlot : Kind → ℕ
-firstSlot K.EndpointDiscovery = 0
-firstSlot K.EndpointInfo = 7
-firstSlot K.DeviceIdentity = 15
-firstSlot K.EndpointName = 0
-firstSlot K.ProductInstanceId = 0
-firstSlot K.FunctionBlockInfo = 26
-firstSlot K.FunctionBlockName = 35
+abbrev pub everySlot : List (Slot Part)
+everySlot = slotsOfKinds kinds
 
 pub record PlaceIs (s : Slot Part) (r : Place) : Type 0 where
   pub word : r .0 ≡ s .word

@@ -103,7 +103,6 @@ pub struct Home {
     pub width: usize,
 }
 
-// Callers give constants, so that the compiler looks the slot up.
 pub fn home_of(kind: Kind, slot: u8) -> Home
     ensures { λ r. ⌜ HomeIs kind slot r ⌝ }
 {
@@ -117,39 +116,18 @@ pub fn home_of(kind: Kind, slot: u8) -> Home
     }
 }
 
-// The home of `flag_at`. Each arm asks by constants, so that the compiler turns the whole into a table.
 pub fn flag_home(flag: FlagName) -> Home
     ensures { λ r. ⌜ HomeIs (flagAt flag .0) (flagAt flag .1) r ⌝ }
 {
-    match flag {
-        FlagName::RequestEndpointInfo => home_of(Kind::EndpointDiscovery, 2),
-        FlagName::RequestDeviceIdentity => home_of(Kind::EndpointDiscovery, 3),
-        FlagName::RequestEndpointName => home_of(Kind::EndpointDiscovery, 4),
-        FlagName::RequestProductInstanceId => home_of(Kind::EndpointDiscovery, 5),
-        FlagName::RequestStreamConfiguration => home_of(Kind::EndpointDiscovery, 6),
-        FlagName::StaticFunctionBlocks => home_of(Kind::EndpointInfo, 2),
-        FlagName::SupportsMidi2Protocol => home_of(Kind::EndpointInfo, 3),
-        FlagName::SupportsMidi1Protocol => home_of(Kind::EndpointInfo, 4),
-        FlagName::SupportsReceivingJrTimestamps => home_of(Kind::EndpointInfo, 5),
-        FlagName::SupportsSendingJrTimestamps => home_of(Kind::EndpointInfo, 6),
-        FlagName::Active => home_of(Kind::FunctionBlockInfo, 0),
-    }
+    let at = flag_at(flag);
+    let kind = at.0;
+    home_of(kind, at.1)
 }
 
-// The home of `number_at`, by constants too.
 pub fn number_home(number: NumberName) -> Home
     ensures { λ r. ⌜ HomeIs (numberAt number .0) (numberAt number .1) r ⌝ }
 {
-    match number {
-        NumberName::DiscoveryVersionMajor => home_of(Kind::EndpointDiscovery, 0),
-        NumberName::DiscoveryVersionMinor => home_of(Kind::EndpointDiscovery, 1),
-        NumberName::InfoVersionMajor => home_of(Kind::EndpointInfo, 0),
-        NumberName::InfoVersionMinor => home_of(Kind::EndpointInfo, 1),
-        NumberName::NumberOfFunctionBlocks => home_of(Kind::EndpointInfo, 7),
-        NumberName::FunctionBlockNumber => home_of(Kind::FunctionBlockInfo, 1),
-        NumberName::FirstGroup => home_of(Kind::FunctionBlockInfo, 5),
-        NumberName::NumberOfGroupsSpanned => home_of(Kind::FunctionBlockInfo, 6),
-        NumberName::MidiCiVersion => home_of(Kind::FunctionBlockInfo, 7),
-        NumberName::MaxNumberOfMidiCiStreams => home_of(Kind::FunctionBlockInfo, 8),
-    }
+    let at = number_at(number);
+    let kind = at.0;
+    home_of(kind, at.1)
 }

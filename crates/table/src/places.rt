@@ -1,7 +1,6 @@
 // Where each slot of a kind stands: word, lowest bit, width. Slots are counted in the table's order.
-ghost use mathlib.Core.Path.{_≡_};
 ghost use Rattle.kinds.specs.Layout.{layout};
-ghost use Rattle.table.specs.Places.{PlaceIs, slotAt, everySlot, firstSlot};
+ghost use Rattle.table.specs.Places.{PlaceIs, slotAt, everySlot};
 use crate::rows::row_of;
 use kinds::kind::Kind;
 
@@ -58,21 +57,6 @@ fn nth_place(n: usize) -> Place
     }
 }
 
-// The number of a kind's first slot among all slots.
-fn first_slot(kind: Kind) -> usize
-    ensures { λ r. ⌜ r ≡ firstSlot kind ⌝ }
-{
-    match kind {
-        Kind::EndpointDiscovery => 0,
-        Kind::EndpointInfo => 7,
-        Kind::DeviceIdentity => 15,
-        Kind::EndpointName => 0,
-        Kind::ProductInstanceId => 0,
-        Kind::FunctionBlockInfo => 26,
-        Kind::FunctionBlockName => 35,
-    }
-}
-
 // Past the kind's last slot: a place of no bits.
 pub fn place_of(kind: Kind, slot: usize) -> Place
     ensures { λ r. ⌜ PlaceIs (slotAt (layout kind .fields) slot) r ⌝ }
@@ -81,5 +65,5 @@ pub fn place_of(kind: Kind, slot: usize) -> Place
     if row.slots <= slot {
         return Place(0, 0, 0);
     }
-    nth_place(first_slot(kind) + slot)
+    nth_place(row.first_slot + slot)
 }

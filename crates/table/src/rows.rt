@@ -12,31 +12,34 @@ pub struct Row {
     pub most_packets: usize,
     // How many octets after octet 2 the text starts: 1 where each packet also has a block number.
     pub text_offset: usize,
-    // How many slots the kind has.
+    // The number of the kind's first slot among the slots of all kinds, and how many it has.
+    pub first_slot: usize,
     pub slots: usize,
     // The field bits of a fresh message's first word.
     pub start: u32,
 }
 
-fn fixed(status: u32, slots: usize, start: u32) -> Row
-    ensures { λ r. ⌜ RowIs (fixedRow status slots start) r ⌝ }
+fn fixed(status: u32, first_slot: usize, slots: usize, start: u32) -> Row
+    ensures { λ r. ⌜ RowIs (fixedRow status «first_slot» slots start) r ⌝ }
 {
     Row {
         status,
         most_packets: 1,
         text_offset: 0,
+        first_slot,
         slots,
         start,
     }
 }
 
-fn text(status: u32, slots: usize, offset: usize) -> Row
-    ensures { λ r. ⌜ RowIs (textRow status slots offset) r ⌝ }
+fn text(status: u32, first_slot: usize, slots: usize, offset: usize) -> Row
+    ensures { λ r. ⌜ RowIs (textRow status «first_slot» slots offset) r ⌝ }
 {
     Row {
         status,
         most_packets: 64,
         text_offset: offset,
+        first_slot,
         slots,
         start: 0,
     }
@@ -47,13 +50,13 @@ pub fn row_of(kind: Kind) -> Row
     ensures { λ r. ⌜ RowIs (tableRow kind) r ⌝ }
 {
     match kind {
-        Kind::EndpointDiscovery => fixed(0x00, 7, 0),
-        Kind::EndpointInfo => fixed(0x01, 8, 0),
-        Kind::DeviceIdentity => fixed(0x02, 11, 0),
-        Kind::EndpointName => text(0x03, 0, 0),
-        Kind::ProductInstanceId => text(0x04, 0, 0),
-        Kind::FunctionBlockInfo => fixed(0x11, 9, 3),
-        Kind::FunctionBlockName => text(0x12, 1, 1),
+        Kind::EndpointDiscovery => fixed(0x00, 0, 7, 0),
+        Kind::EndpointInfo => fixed(0x01, 7, 8, 0),
+        Kind::DeviceIdentity => fixed(0x02, 15, 11, 0),
+        Kind::EndpointName => text(0x03, 26, 0, 0),
+        Kind::ProductInstanceId => text(0x04, 26, 0, 0),
+        Kind::FunctionBlockInfo => fixed(0x11, 26, 9, 3),
+        Kind::FunctionBlockName => text(0x12, 35, 1, 1),
     }
 }
 

@@ -1,12 +1,15 @@
 -- One place lent again and again gives the bytes of the text, then the end every time. From the laws of crate `text`, for capacity 13 and 14.
-use Prim.Native.Nat.{ℕ, zero, suc, _+_, _*_, _/_, _<_, _≤_}
+use Prim.Native.Nat.{ℕ, zero, suc, _+_, _-_, _*_, _/_, _<_, _≤_}
 use mathlib.Core.Path.{_≡_, refl, sym, ap, _∙_}
+use mathlib.Core.Bool.{true}
 use mathlib.Core.Logic.{_⊎_, inl, inr, ⊎-elim}
 use mathlib.Core.List.{List, _∷_, _++_}
 use native.Mathlib.Omega.{arith}
 use native.Mathlib.Nat.{zero-add, suc-add}
 use lib.ListN.{length, replicate}
-use lib.Dec.{eqb}
+use lib.Dec.{ltb, eqb}
+use borrow.Author.Tests.{lt-ltb, eqb-true}
+use Rattle.laws.specs.Pick.{pick, both}
 use Rattle.laws.specs.Lists.{map}
 use Rattle.laws.proofs.Pick.{here, past, split}
 use Rattle.text.specs.Place.{stepped}
@@ -19,6 +22,7 @@ use Rattle.text.proofs.Place.{step-past, step-over, stays, hands-all, handed-al
 use Rattle.kinds.specs.declared.kind.Kind.{Kind}
 use Rattle.kinds.specs.declared.kind.Kind.the-variants as K
 use Rattle.kinds.specs.Layout.{layout, capacityOf}
+use Rattle.kinds.proofs.Rows.{everyKind, at-kind}
 use Rattle.standard.specs.Heads.{statusOf, headAt}
 use Rattle.standard.specs.Reading.{textAt}
 use Rattle.standard.specs.Place.{offsetHere, nextByte}
@@ -34,6 +38,14 @@ capacity-is ws = ⊎-elim (λ e. inl (rw e)) (λ e. inr (rw e)) (offset-small ws
 
 positive : (ws : List ℕ) → 0 < capacityHere ws
 positive ws = ⊎-elim (λ e. omega arith) (λ e. omega arith) (capacity-is ws)
+
+-- a kind with text has the capacity that its status tells
+abbrev told : Kind → ℕ
+told k = 14 - pick (eqb (layout k .status) (layout K.FunctionBlockName .status)) 1 0
+
+row-capacity : (k : Kind) → 0 < capacityOf k → told k ≡ capacityOf k
+unfolding everyKind layout both
+row-capacity k h = eqb-true _ _ (rw (lt-ltb 0 (capacityOf k) h) at (at-kind (λ j. pick (ltb 0 (capacityOf j)) (eqb (told j) (capacityOf j)) true) refl k))
 
 module _ (ws : List ℕ) where
   -- ---- a place that is the end
@@ -91,11 +103,5 @@ module _ (ws : List ℕ) where
 
   -- ---- THE TEXT LENT IS THE TEXT READ, for the three kinds that have text
   pub lent-read : (k : Kind) → statusOf (headAt ws 0) ≡ layout k .status → 0 < capacityOf k → textHere ws ≡ textAt k ws
-  unfolding layout offsetHere
-  lent-read K.EndpointDiscovery e h = absurd (omega arith)
-  lent-read K.EndpointInfo e h = absurd (omega arith)
-  lent-read K.DeviceIdentity e h = absurd (omega arith)
-  lent-read K.EndpointName e h = rw e
-  lent-read K.ProductInstanceId e h = rw e
-  lent-read K.FunctionBlockInfo e h = absurd (omega arith)
-  lent-read K.FunctionBlockName e h = rw e
+  unfolding offsetHere
+  lent-read k e h = let c = row-capacity k h in rw (e, c)

@@ -18,7 +18,7 @@ use Rattle.kinds.specs.declared.kind.Kind.{Kind}
 use Rattle.kinds.specs.declared.refusal.Refusal.the-variants.{TooManyPackets, NotUtf8, NoRoom}
 use Rattle.kinds.specs.Fields.{Text, Field, Setting, fieldIn, valueIn, same, decided}
 use Rattle.kinds.specs.Layout.{Part, Row, Body, fixed, texts, layout, capacityIn, capacityOf, hasText, isText, slotsOf, parts, valuesIn}
-use Rattle.kinds.proofs.Homes.{everyKind}
+use Rattle.kinds.proofs.Rows.{everyKind}
 use Rattle.records.specs.declared.answers.Answer.{Answer}
 use Rattle.records.specs.declared.answers.Answer.the-variants as A
 use Rattle.standard.specs.Heads.{packetsOf}

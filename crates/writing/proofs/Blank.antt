@@ -5,8 +5,8 @@ use mathlib.Core.List.{List, [], _∷_}
 use native.Mathlib.Omega.{arith}
 use lib.ListN.{length}
 use lib.Dec.{eqb}
-use borrow.Author.Tests.{eq-eqb, ne-eqb}
-use Rattle.laws.specs.Pick.{pick}
+use borrow.Author.Tests.{eq-eqb, ne-eqb, eqb-true}
+use Rattle.laws.specs.Pick.{pick, both}
 use Rattle.laws.specs.Lists.{upTo}
 use Rattle.slots.specs.Slots.{put, putAll}
 use Rattle.text.specs.Written.{blank}
@@ -16,6 +16,7 @@ use Rattle.kinds.specs.declared.kind.Known.the-variants.{Is, Unknown}
 use Rattle.kinds.specs.declared.refusal.Refusal.the-variants.{UnknownStatus, NoRoom}
 use Rattle.kinds.specs.Fields.{start, partOf}
 use Rattle.kinds.specs.Layout.{layout, kindOf, parts}
+use Rattle.kinds.proofs.Rows.{everyKind, at-kind}
 use Rattle.table.specs.Rows.{tableRow}
 use Rattle.records.specs.declared.answers.Answer.the-variants as A
 use Rattle.standard.specs.Heads.{headWord}
@@ -56,14 +57,8 @@ fresh-blank k ws h =
 
 -- the head as the code puts it together
 pub head-row : (k : Kind) → headWord (layout k .status) 0 + tableRow k .start ≡ headOf (layout k) start 0
-unfolding layout start partOf putWord put putAll
-head-row K.EndpointDiscovery = refl
-head-row K.EndpointInfo = refl
-head-row K.DeviceIdentity = refl
-head-row K.EndpointName = refl
-head-row K.ProductInstanceId = refl
-head-row K.FunctionBlockInfo = refl
-head-row K.FunctionBlockName = refl
+unfolding everyKind layout start partOf putWord put putAll both
+head-row k = eqb-true _ _ (at-kind (λ j. eqb (headWord (layout j .status) 0 + tableRow j .start) (headOf (layout j) start 0)) refl k)
 
 -- ---- how the code reaches each case
 module _ (status : ℕ) (ws : List ℕ) where

@@ -31,6 +31,4 @@ returns c = let h = length-one (c .before .loop .rest) (c .loop-test .left) in o
 
 pub digits-of-spec : {M : Type 1} → statement M
 digits-of-spec =
-    tie.close
-    (tie.spec
-    Inv-loop μ-loop loop-holds add-count loop-less loop-again returns)
+    tie.close (tie.spec Inv-loop μ-loop loop-holds add-count loop-less loop-again returns)

@@ -12,6 +12,5 @@ returns-2 c = put-full _ _ _ (c .if1 .left)
 
 pub put-byte-spec : {M : Type 1} → statement M
 put-byte-spec =
-    tie.close
-    (tie.spec
-    (λ c. search needs) (λ c. search needs) (λ c. search needs) returns returns-2)
+    tie.close (tie.spec (λ c. search needs) (λ c. search needs) (λ c. search needs) returns
+    returns-2)

@@ -71,8 +71,6 @@ returns-3 c =
 
 pub put-decimal-spec : {M : Type 1} → statement M
 put-decimal-spec =
-    tie.close
-    (tie.spec
-    Inv-loop μ-loop returns (λ c κs. search needs) loop-holds sub-i add-put-byte
-    (λ c. search needs) (λ c κs. search needs) (λ c κs. search needs) loop-less loop-again sub-if2
-    same-length returns-2 add-result same-length-2 returns-3)
+    tie.close (tie.spec Inv-loop μ-loop returns (λ c κs. search needs) loop-holds sub-i
+    add-put-byte (λ c. search needs) (λ c κs. search needs) (λ c κs. search needs) loop-less
+    loop-again sub-if2 same-length returns-2 add-result same-length-2 returns-3)

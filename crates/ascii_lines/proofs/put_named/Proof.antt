@@ -9,6 +9,4 @@ returns c = c .before .before .before .before .before .before .put-text .ensures
 
 pub put-named-spec : {M : Type 1} → statement M
 put-named-spec =
-    tie.close
-    (tie.spec
-    (λ c κs. search needs) (λ c κs. search needs) (λ c. search needs) returns)
+    tie.close (tie.spec (λ c κs. search needs) (λ c κs. search needs) (λ c. search needs) returns)

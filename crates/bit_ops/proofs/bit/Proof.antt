@@ -11,6 +11,4 @@ returns c = ap (λ (x : ℕ). eqb x 1) (c .part .ensures .0)
 
 pub bit-spec : {M : Type 1} → statement M
 bit-spec =
-    tie.close
-    (tie.spec
-    (λ c κs. search needs) returns)
+    tie.close (tie.spec (λ c κs. search needs) returns)

@@ -13,7 +13,5 @@ returns c = rw (one-shl 32 (c .pre .1))
 
 pub get-bits-spec : {M : Type 1} → statement M
 get-bits-spec =
-    tie.close
-    (tie.spec
-    (λ c. search needs) (λ c. search needs) (λ c. search needs) (λ c. search needs) rem-result
-    returns)
+    tie.close (tie.spec (λ c. search needs) (λ c. search needs) (λ c. search needs)
+    (λ c. search needs) rem-result returns)

@@ -17,6 +17,4 @@ sub-result c = in-word (c .args .stride) (c .args .index) (c .pre)
 
 pub lowest-bit-spec : {M : Type 1} → statement M
 lowest-bit-spec =
-    tie.close
-    (tie.spec
-    add-result mul-result sub-result (λ c. search needs))
+    tie.close (tie.spec add-result mul-result sub-result (λ c. search needs))

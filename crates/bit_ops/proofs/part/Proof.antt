@@ -14,6 +14,5 @@ returns-2 c = part-at _ _ _ _ _ _ (c .before .before .if1 .left) (c .before .low
 
 pub part-spec : {M : Type 1} → statement M
 part-spec =
-    tie.close
-    (tie.spec
-    (λ c. search needs) returns (λ c κs. search needs) (λ c κs. search needs) returns-2)
+    tie.close (tie.spec (λ c. search needs) returns (λ c κs. search needs) (λ c κs. search needs)
+    returns-2)

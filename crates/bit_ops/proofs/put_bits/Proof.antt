@@ -15,7 +15,5 @@ returns c = put-shl _ _ _ _ _ (c .before .pre .2) (c .before .pre .3) (c .get-bi
 
 pub put-bits-spec : {M : Type 1} → statement M
 put-bits-spec =
-    tie.close
-    (tie.spec
-    (λ c κs. search needs) (λ c. search needs) (λ c. search needs) sub-result (λ c. search needs)
-    (λ c. search needs) add-result returns)
+    tie.close (tie.spec (λ c κs. search needs) (λ c. search needs) (λ c. search needs) sub-result
+    (λ c. search needs) (λ c. search needs) add-result returns)

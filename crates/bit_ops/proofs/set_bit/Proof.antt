@@ -9,6 +9,4 @@ returns c = rw (← bit-byte) (c .set-part .ensures)
 
 pub set-bit-spec : {M : Type 1} → statement M
 set-bit-spec =
-    tie.close
-    (tie.spec
-    (λ c. search needs) (λ c κs. search needs) returns)
+    tie.close (tie.spec (λ c. search needs) (λ c κs. search needs) returns)

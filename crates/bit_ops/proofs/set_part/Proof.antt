@@ -18,7 +18,5 @@ returns-3 c = put-at _ _ _ _ _ _ _ (c .before .before .before .if1 .left) (omega
 
 pub set-part-spec : {M : Type 1} → statement M
 set-part-spec =
-    tie.close
-    (tie.spec
-    (λ c. search needs) returns (λ c. search needs) (λ c. search needs) returns-2
-    (λ c κs. search needs) (λ c κs. search needs) returns-3)
+    tie.close (tie.spec (λ c. search needs) returns (λ c. search needs) (λ c. search needs)
+    returns-2 (λ c κs. search needs) (λ c κs. search needs) returns-3)

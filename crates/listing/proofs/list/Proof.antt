@@ -21,8 +21,6 @@ returns-2 c = let r = c .before .before .before .before .before .before .before 
 
 pub list-spec : {M : Type 1} → statement M
 list-spec =
-    tie.close
-    (tie.spec
-    (λ c. search needs) (λ c κs. search needs) (λ c. search needs) returns (λ c. search needs)
-    (λ c κs. search needs) (λ c. search needs) slice-aggregate-put-lines (λ c κs. search needs)
-    (λ c κs. search needs) (λ c. search needs) returns-2)
+    tie.close (tie.spec (λ c. search needs) (λ c κs. search needs) (λ c. search needs) returns
+    (λ c. search needs) (λ c κs. search needs) (λ c. search needs) slice-aggregate-put-lines
+    (λ c κs. search needs) (λ c κs. search needs) (λ c. search needs) returns-2)

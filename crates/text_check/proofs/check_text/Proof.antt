@@ -10,6 +10,4 @@ returns c = good-is _ (sym (c .before .good-text .ensures) ∙ c .if1 .taken)
 
 pub check-text-spec : {M : Type 1} → statement M
 check-text-spec =
-    tie.close
-    (tie.spec
-    (λ c κs. search needs) returns (λ c κs. search needs) (λ c. search needs))
+    tie.close (tie.spec (λ c κs. search needs) returns (λ c κs. search needs) (λ c. search needs))

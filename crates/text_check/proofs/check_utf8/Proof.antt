@@ -10,6 +10,4 @@ returns c = good-is _ (sym (c .before .is-good .ensures) ∙ c .if1 .taken)
 
 pub check-utf8-spec : {M : Type 1} → statement M
 check-utf8-spec =
-    tie.close
-    (tie.spec
-    (λ c κs. search needs) returns (λ c κs. search needs) (λ c. search needs))
+    tie.close (tie.spec (λ c κs. search needs) returns (λ c κs. search needs) (λ c. search needs))

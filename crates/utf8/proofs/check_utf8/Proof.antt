@@ -35,8 +35,7 @@ returns-2 c = c .verdict-at-end .ensures ∙ scan-finish _ _ _ (c .before .loop-
 pub check-utf8-spec : {M : Type 1} → statement M
 unfolding firstBad
 check-utf8-spec =
-    tie.close
-    (tie.spec
-    Inv-loop μ-loop (λ c κs. search needs) (λ c. (search needs, rw (c .new-scan .ensures)))
-    (λ c. search needs) (λ c κs. search needs) (λ c. search needs) returns (λ c. search needs)
-    (λ c. search needs) (λ c. search needs) loop-again (λ c κs. search needs) returns-2)
+    tie.close (tie.spec Inv-loop μ-loop (λ c κs. search needs)
+    (λ c. (search needs, rw (c .new-scan .ensures))) (λ c. search needs) (λ c κs. search needs)
+    (λ c. search needs) returns (λ c. search needs) (λ c. search needs) (λ c. search needs)
+    loop-again (λ c κs. search needs) returns-2)

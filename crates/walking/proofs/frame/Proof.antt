@@ -39,11 +39,9 @@ returns-6 c = frame-end _ _ _ _ (c .loop-test .left) ∙ c .before .loop .inv .2
 pub frame-spec : {M : Type 1} → statement M
 unfolding frameOf
 frame-spec =
-    tie.close
-    (tie.spec
-    Inv-loop μ-loop (λ c. search needs) (λ c. search needs) (λ c κs. search needs)
-    (λ c. (search needs, search needs, rw (c .status-of .ensures))) (λ c. search needs) returns
-    (λ c. search needs) (λ c. search needs) (λ c κs. search needs) returns-2
-    (λ c κs. search needs) returns-3 (λ c κs. search needs) (λ c κs. search needs)
+    tie.close (tie.spec Inv-loop μ-loop (λ c. search needs) (λ c. search needs)
+    (λ c κs. search needs) (λ c. (search needs, search needs, rw (c .status-of .ensures)))
+    (λ c. search needs) returns (λ c. search needs) (λ c. search needs) (λ c κs. search needs)
+    returns-2 (λ c κs. search needs) returns-3 (λ c κs. search needs) (λ c κs. search needs)
     (λ c. search needs) (λ c. search needs) returns-4 (λ c. search needs) (λ c. search needs)
     returns-5 (λ c. search needs) (λ c. search needs) (λ c. search needs) loop-again returns-6)

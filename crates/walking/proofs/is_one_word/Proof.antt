@@ -12,6 +12,4 @@ returns-2 c = one-word-not _ (c .if1 .left)
 
 pub is-one-word-spec : {M : Type 1} → statement M
 is-one-word-spec =
-    tie.close
-    (tie.spec
-    (λ c. search needs) returns returns-2)
+    tie.close (tie.spec (λ c. search needs) returns returns-2)

@@ -33,8 +33,6 @@ returns-5 c =
 
 pub other-size-spec : {M : Type 1} → statement M
 other-size-spec =
-    tie.close
-    (tie.spec
-    returns (λ c. search needs) (λ c. search needs) (λ c κs. search needs) (λ c. search needs)
-    (λ c κs. search needs) returns-2 returns-3 (λ c κs. search needs) (λ c. search needs)
-    returns-4 returns-5)
+    tie.close (tie.spec returns (λ c. search needs) (λ c. search needs) (λ c κs. search needs)
+    (λ c. search needs) (λ c κs. search needs) returns-2 returns-3 (λ c κs. search needs)
+    (λ c. search needs) returns-4 returns-5)

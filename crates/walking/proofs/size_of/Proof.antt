@@ -9,8 +9,7 @@ use Rattle.walking.proofs.size_of.Tie as tie
 pub size-of-spec : {M : Type 1} → statement M
 unfolding sizeOf
 size-of-spec =
-    tie.close
-    (tie.spec
+    tie.close (tie.spec
     (λ c. past _ (le-ltb _ _ (c .before .before .before .before .before .if1 .left)) (past _ (le-ltb _ _ (c .before .before .before .before .if2 .left)) (past _ (le-ltb _ _ (c .before .before .before .if3 .left)) (past _ (le-ltb _ _ (c .before .before .if4 .left)) (past _ (le-ltb _ _ (c .before .if5 .left)) (here _ (lt-ltb _ _ (c .if6 .taken)) refl))))))
     (λ c. past _ (le-ltb _ _ (c .before .before .if1 .left)) (past _ (le-ltb _ _ (c .before .if2 .left)) (here _ (lt-ltb _ _ (c .if3 .taken)) refl)))
     (λ c. past _ (le-ltb _ _ (c .before .before .before .before .before .if1 .left)) (past _ (le-ltb _ _ (c .before .before .before .before .if2 .left)) (past _ (le-ltb _ _ (c .before .before .before .if3 .left)) (past _ (le-ltb _ _ (c .before .before .if4 .left)) (past _ (le-ltb _ _ (c .before .if5 .left)) (past _ (le-ltb _ _ (c .if6 .left)) refl))))))

@@ -9,9 +9,7 @@ use Rattle.walking.proofs.step_of.Tie as tie
 pub step-of-spec : {M : Type 1} → statement M
 unfolding stepOf
 step-of-spec =
-    tie.close
-    (tie.spec
-    (λ c. here _ (eq-eqb _ _ (c .before .if1 .taken)) (rw (c .match .keys1)))
+    tie.close (tie.spec (λ c. here _ (eq-eqb _ _ (c .before .if1 .taken)) (rw (c .match .keys1)))
     (λ c. here _ (eq-eqb _ _ (c .before .if1 .taken)) (rw (c .match .keys2)))
     (λ c. here _ (eq-eqb _ _ (c .before .if1 .taken)) (past _ (ne-eqb _ _ (c .match .rest .0 .1)) (past _ (ne-eqb _ _ (c .match .rest .1)) refl)))
     (λ c. past _ (ne-eqb _ _ (c .before .if1 .left)) (rw (c .match2 .keys1)))

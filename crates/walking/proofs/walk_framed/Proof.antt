@@ -32,9 +32,7 @@ returns-3 c =
 
 pub walk-framed-spec : {M : Type 1} → statement M
 walk-framed-spec =
-    tie.close
-    (tie.spec
-    (λ c κs. search needs) (λ c. search needs) (λ c. search needs) (λ c. search needs)
-    (λ c. search needs) mul-after add-after (λ c. search needs) (λ c. search needs)
-    (λ c. search needs) part-read-framed-end (λ c κs. search needs) (λ c κs. search needs) returns
-    returns-2 returns-3)
+    tie.close (tie.spec (λ c κs. search needs) (λ c. search needs) (λ c. search needs)
+    (λ c. search needs) (λ c. search needs) mul-after add-after (λ c. search needs)
+    (λ c. search needs) (λ c. search needs) part-read-framed-end (λ c κs. search needs)
+    (λ c κs. search needs) returns returns-2 returns-3)

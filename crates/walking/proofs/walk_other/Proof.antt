@@ -10,9 +10,7 @@ use Rattle.walking.proofs.walk_other.Tie as tie
 pub walk-other-spec : {M : Type 1} → statement M
 unfolding otherOf
 walk-other-spec =
-    tie.close
-    (tie.spec
-    (λ c κs. search needs) (λ c. search needs)
+    tie.close (tie.spec (λ c κs. search needs) (λ c. search needs)
     (λ c. rw (← c .before .size-of .ensures) (here _ (lt-ltb _ _ (c .if1 .taken)) refl))
     (λ c. search needs)
     (λ c. rw (← c .before .size-of .ensures) (past _ (le-ltb _ _ (c .if1 .left)) refl)))

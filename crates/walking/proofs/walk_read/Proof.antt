@@ -11,6 +11,4 @@ returns-2 c = rw (c .before .read2 .given .1)
 
 pub walk-read-spec : {M : Type 1} → statement M
 walk-read-spec =
-    tie.close
-    (tie.spec
-    (λ c. search needs) (λ c. search needs) returns returns-2)
+    tie.close (tie.spec (λ c. search needs) (λ c. search needs) returns returns-2)

@@ -10,6 +10,4 @@ returns c = let h = c .pre in one-shl 64 (omega arith)
 
 pub power-of-two-spec : {M : Type 1} → statement M
 power-of-two-spec =
-    tie.close
-    (tie.spec
-    (λ c. search needs) returns)
+    tie.close (tie.spec (λ c. search needs) returns)

@@ -52,8 +52,6 @@ returns-2 c = past _ (le-ltb _ _ (c .before .before .if1 .left)) (all-filled (c 
 
 pub put-each-spec : {M : Type 1} → statement M
 put-each-spec =
-    tie.close
-    (tie.spec
-    Inv-loop μ-loop returns loop-holds mul-with-field (λ c. search needs) slice-read-with-field
-    (λ c κs. search needs) (λ c. search needs) (λ c. search needs) slice-write-words add-p
-    loop-less loop-again same-length returns-2)
+    tie.close (tie.spec Inv-loop μ-loop returns loop-holds mul-with-field (λ c. search needs)
+    slice-read-with-field (λ c κs. search needs) (λ c. search needs) (λ c. search needs)
+    slice-write-words add-p loop-less loop-again same-length returns-2)

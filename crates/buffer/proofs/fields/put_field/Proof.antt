@@ -9,8 +9,6 @@ use Rattle.buffer.proofs.fields.put_field.Tie as tie
 pub put-field-spec : {M : Type 1} → statement M
 unfolding putIn
 put-field-spec =
-    tie.close
-    (tie.spec
-    (λ c. search needs) (λ c. search needs) (λ c κs. search needs) (λ c. search needs)
-    (λ c. search needs) (λ c. search needs) (λ c. rw (c .with-field .ensures))
+    tie.close (tie.spec (λ c. search needs) (λ c. search needs) (λ c κs. search needs)
+    (λ c. search needs) (λ c. search needs) (λ c. search needs) (λ c. rw (c .with-field .ensures))
     (λ c. sym (set-out _ _ _ (c .if1 .left))))

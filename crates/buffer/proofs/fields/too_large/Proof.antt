@@ -16,6 +16,4 @@ returns-2 c = rw (c .power-of-two .ensures)
 
 pub too-large-spec : {M : Type 1} → statement M
 too-large-spec =
-    tie.close
-    (tie.spec
-    returns (λ c κs. search needs) returns-2)
+    tie.close (tie.spec returns (λ c κs. search needs) returns-2)

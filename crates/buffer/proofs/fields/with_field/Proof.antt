@@ -42,8 +42,6 @@ returns-4 c = put-is (record { lowest = c .before .power-of-two .ensures; above 
 
 pub with-field-spec : {M : Type 1} → statement M
 with-field-spec =
-    tie.close
-    (tie.spec
-    returns returns-2 (λ c κs. search needs) returns-3 (λ c κs. search needs) (λ c. search needs)
-    (λ c κs. search needs) div-result mul-result mul-result-2 add-result rem-result add-result-2
-    cast-result returns-4)
+    tie.close (tie.spec returns returns-2 (λ c κs. search needs) returns-3 (λ c κs. search needs)
+    (λ c. search needs) (λ c κs. search needs) div-result mul-result mul-result-2 add-result
+    rem-result add-result-2 cast-result returns-4)

@@ -21,6 +21,4 @@ returns-2 c = c .before .before .clear-from .ensures ∙ blank-cleared _ _ (c .b
 
 pub clear-spec : {M : Type 1} → statement M
 clear-spec =
-    tie.close
-    (tie.spec
-    returns (λ c. search needs) clear-from-requires same-length returns-2)
+    tie.close (tie.spec returns (λ c. search needs) clear-from-requires same-length returns-2)

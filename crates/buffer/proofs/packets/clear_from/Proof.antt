@@ -39,7 +39,6 @@ same-length c = c .before .loop .inv .3 .long
 pub clear-from-spec : {M : Type 1} → statement M
 unfolding clearFrom
 clear-from-spec =
-    tie.close
-    (tie.spec
-    Inv-loop μ-loop (λ c. search needs) loop-holds (λ c. search needs) slice-write-words add-k
-    loop-less loop-again same-length (λ c. all-filled (c .before .loop .inv .3) _ (omega arith)))
+    tie.close (tie.spec Inv-loop μ-loop (λ c. search needs) loop-holds (λ c. search needs)
+    slice-write-words add-k loop-less loop-again same-length
+    (λ c. all-filled (c .before .loop .inv .3) _ (omega arith)))

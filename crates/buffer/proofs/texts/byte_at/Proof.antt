@@ -17,6 +17,4 @@ returns-2 c = (sym (List·getD-eq-default (c .before .args .text .now) 0 (c .if1
 
 pub byte-at-spec : {M : Type 1} → statement M
 byte-at-spec =
-    tie.close
-    (tie.spec
-    (λ c. search needs) cast-result returns returns-2)
+    tie.close (tie.spec (λ c. search needs) cast-result returns returns-2)

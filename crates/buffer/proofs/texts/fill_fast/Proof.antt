@@ -17,7 +17,5 @@ returns-2 c =
 
 pub fill-fast-spec : {M : Type 1} → statement M
 fill-fast-spec =
-    tie.close
-    (tie.spec
-    returns (λ c κs. search needs) (λ c κs. search needs) (λ c. search needs) (λ c. search needs)
-    returns-2 (λ c. search needs) (λ c. search needs))
+    tie.close (tie.spec returns (λ c κs. search needs) (λ c κs. search needs) (λ c. search needs)
+    (λ c. search needs) returns-2 (λ c. search needs) (λ c. search needs))

@@ -60,8 +60,6 @@ returns-2 c = (c .before .loop .inv .2 .is, c .before .loop .inv .0)
 
 pub fill-full-packets-spec : {M : Type 1} → statement M
 fill-full-packets-spec =
-    tie.close
-    (tie.spec
-    Inv-loop μ-loop (λ c. search needs) loop-holds same-length returns fill-full-packet-requires
-    (λ c. search needs) (λ c. search needs) add-to (λ c. search needs) loop-again same-length-2
-    returns-2)
+    tie.close (tie.spec Inv-loop μ-loop (λ c. search needs) loop-holds same-length returns
+    fill-full-packet-requires (λ c. search needs) (λ c. search needs) add-to (λ c. search needs)
+    loop-again same-length-2 returns-2)

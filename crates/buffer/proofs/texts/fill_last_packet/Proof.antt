@@ -49,10 +49,8 @@ returns c =
 
 pub fill-last-packet-spec : {M : Type 1} → statement M
 fill-last-packet-spec =
-    tie.close
-    (tie.spec
-    (λ c. search needs) (λ c. search needs) mul-from (λ c. search needs) add-from
-    (λ c κs. search needs) (λ c. search needs) (λ c. search needs) four-bytes-requires
+    tie.close (tie.spec (λ c. search needs) (λ c. search needs) mul-from (λ c. search needs)
+    add-from (λ c κs. search needs) (λ c. search needs) (λ c. search needs) four-bytes-requires
     (λ c. search needs) (λ c. search needs) slice-write-words-2 add-four-bytes
     four-bytes-requires-2 (λ c. search needs) (λ c. search needs) slice-write-words-3
     add-four-bytes-2 four-bytes-requires-3 (λ c. search needs) (λ c. search needs)

@@ -37,7 +37,5 @@ returns c = all-filled (c .before .loop .inv .1) _ (omega arith)
 
 pub fill-packets-spec : {M : Type 1} → statement M
 fill-packets-spec =
-    tie.close
-    (tie.spec
-    Inv-loop μ-loop loop-holds fill-any-packet-requires (λ c. search needs) (λ c. search needs)
-    loop-again same-length returns)
+    tie.close (tie.spec Inv-loop μ-loop loop-holds fill-any-packet-requires (λ c. search needs)
+    (λ c. search needs) loop-again same-length returns)

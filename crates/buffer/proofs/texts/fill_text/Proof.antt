@@ -35,7 +35,6 @@ returns-4 c =
 
 pub fill-text-spec : {M : Type 1} → statement M
 fill-text-spec =
-    tie.close
-    (tie.spec
-    returns returns-2 (λ c κs. search needs) (λ c. search needs) returns-3 (λ c κs. search needs)
-    (λ c. search needs) (λ c κs. search needs) (λ c. search needs) returns-4)
+    tie.close (tie.spec returns returns-2 (λ c κs. search needs) (λ c. search needs) returns-3
+    (λ c κs. search needs) (λ c. search needs) (λ c κs. search needs) (λ c. search needs)
+    returns-4)

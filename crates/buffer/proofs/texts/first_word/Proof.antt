@@ -23,8 +23,6 @@ returns-3 c = no-byte _ _ _ _ _ _ (c .before .before .head-of .ensures) (search 
 
 pub first-word-spec : {M : Type 1} → statement M
 first-word-spec =
-    tie.close
-    (tie.spec
-    (λ c κs. search needs) (λ c. search needs) mul-at (λ c. search needs) four-bytes-requires
-    (λ c. search needs) returns (λ c. search needs) (λ c κs. search needs) (λ c. search needs)
-    returns-2 returns-3)
+    tie.close (tie.spec (λ c κs. search needs) (λ c. search needs) mul-at (λ c. search needs)
+    four-bytes-requires (λ c. search needs) returns (λ c. search needs) (λ c κs. search needs)
+    (λ c. search needs) returns-2 returns-3)

@@ -13,6 +13,4 @@ returns c = c .with-field .ensures ∙ put-fitting _ 26 2 _ (lit≤ tt) (rw (c .
 
 pub head-of-spec : {M : Type 1} → statement M
 head-of-spec =
-    tie.close
-    (tie.spec
-    (λ c κs. search needs) (λ c. search needs) (λ c κs. search needs) returns)
+    tie.close (tie.spec (λ c κs. search needs) (λ c. search needs) (λ c κs. search needs) returns)

@@ -23,11 +23,10 @@ returns c = c .four-bytes .ensures ∙ word-of-text _ _ _ _ _ (c .before .before
 pub later-word-spec : {M : Type 1} → statement M
 unfolding wordIn
 later-word-spec =
-    tie.close
-    (tie.spec
-    (λ c. search needs) (λ c. search needs) (λ c. search needs) mul-four-bytes (λ c. search needs)
-    (λ c. search needs) add-four-bytes-2 four-bytes-requires returns (λ c κs. search needs)
-    (λ c. search needs) (λ c κs. search needs) (λ c. search needs) (λ c κs. search needs)
-    (λ c. search needs) (λ c κs. search needs) (λ c. search needs) (λ c. search needs)
+    tie.close (tie.spec (λ c. search needs) (λ c. search needs) (λ c. search needs) mul-four-bytes
+    (λ c. search needs) (λ c. search needs) add-four-bytes-2 four-bytes-requires returns
+    (λ c κs. search needs) (λ c. search needs) (λ c κs. search needs) (λ c. search needs)
+    (λ c κs. search needs) (λ c. search needs) (λ c κs. search needs) (λ c. search needs)
     (λ c. search needs) (λ c. search needs) (λ c. search needs) (λ c. search needs)
+    (λ c. search needs)
     (λ c. rw (c .before .before .before .octet-at .ensures .0, c .before .before .octet-at2 .ensures .0, c .before .octet-at3 .ensures .0, c .octet-at4 .ensures .0)))

@@ -21,7 +21,5 @@ returns-2 c = (c .byte-at .ensures .0 ∙ in-text _ _ _ _ _ (c .before .before .
 
 pub octet-at-spec : {M : Type 1} → statement M
 octet-at-spec =
-    tie.close
-    (tie.spec
-    (λ c. search needs) returns (λ c. search needs) mul-byte-at (λ c. search needs)
-    (λ c. search needs) add-byte-at-2 (λ c κs. search needs) returns-2)
+    tie.close (tie.spec (λ c. search needs) returns (λ c. search needs) mul-byte-at
+    (λ c. search needs) (λ c. search needs) add-byte-at-2 (λ c κs. search needs) returns-2)

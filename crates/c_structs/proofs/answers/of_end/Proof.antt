@@ -8,6 +8,4 @@ returns c = rw (c .no-numbers .ensures)
 
 pub of-end-spec : {M : Type 1} → statement M
 of-end-spec =
-    tie.close
-    (tie.spec
-    (λ c κs. search needs) returns)
+    tie.close (tie.spec (λ c κs. search needs) returns)

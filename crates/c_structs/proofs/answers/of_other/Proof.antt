@@ -8,6 +8,4 @@ returns c = rw (c .no-numbers .ensures)
 
 pub of-other-spec : {M : Type 1} → statement M
 of-other-spec =
-    tie.close
-    (tie.spec
-    (λ c κs. search needs) returns)
+    tie.close (tie.spec (λ c κs. search needs) returns)

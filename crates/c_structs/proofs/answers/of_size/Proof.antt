@@ -11,7 +11,5 @@ returns-2 c = rw (c .before .before .before .size2 .given .1, c .before .refusal
 
 pub of-size-spec : {M : Type 1} → statement M
 of-size-spec =
-    tie.close
-    (tie.spec
-    (λ c. search needs) (λ c. search needs) (λ c κs. search needs) (λ c κs. search needs) returns
-    returns-2)
+    tie.close (tie.spec (λ c. search needs) (λ c. search needs) (λ c κs. search needs)
+    (λ c κs. search needs) returns returns-2)

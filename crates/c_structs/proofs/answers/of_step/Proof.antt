@@ -8,6 +8,4 @@ returns c = rw (c .byte-of .ensures)
 
 pub of-step-spec : {M : Type 1} → statement M
 of-step-spec =
-    tie.close
-    (tie.spec
-    (λ c κs. search needs) returns)
+    tie.close (tie.spec (λ c κs. search needs) returns)

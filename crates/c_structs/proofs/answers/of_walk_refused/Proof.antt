@@ -8,6 +8,5 @@ returns c = rw (c .before .before .refusal-number .ensures, c .before .refusal-p
 
 pub of-walk-refused-spec : {M : Type 1} → statement M
 of-walk-refused-spec =
-    tie.close
-    (tie.spec
-    (λ c κs. search needs) (λ c κs. search needs) (λ c κs. search needs) returns)
+    tie.close (tie.spec (λ c κs. search needs) (λ c κs. search needs) (λ c κs. search needs)
+    returns)

@@ -8,6 +8,4 @@ returns c = (rw (c .of-answer .ensures, c .before .before .before .fresh .ensure
 
 pub frayedbin-fresh-spec : {M : Type 1} → statement M
 frayedbin-fresh-spec =
-    tie.close
-    (tie.spec
-    (λ c κs. search needs) (λ c κs. search needs) (λ c. search needs) returns)
+    tie.close (tie.spec (λ c κs. search needs) (λ c κs. search needs) (λ c. search needs) returns)

@@ -8,6 +8,4 @@ returns c = rw (c .of-size .ensures, c .before .message-size .ensures)
 
 pub frayedbin-message-size-spec : {M : Type 1} → statement M
 frayedbin-message-size-spec =
-    tie.close
-    (tie.spec
-    (λ c κs. search needs) (λ c κs. search needs) returns)
+    tie.close (tie.spec (λ c κs. search needs) (λ c κs. search needs) returns)

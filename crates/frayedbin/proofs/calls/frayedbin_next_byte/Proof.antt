@@ -8,6 +8,4 @@ returns c = rw (c .of-step .ensures, c .before .next-byte .ensures)
 
 pub frayedbin-next-byte-spec : {M : Type 1} → statement M
 frayedbin-next-byte-spec =
-    tie.close
-    (tie.spec
-    (λ c κs. search needs) (λ c κs. search needs) returns)
+    tie.close (tie.spec (λ c κs. search needs) (λ c κs. search needs) returns)

@@ -8,6 +8,4 @@ returns c = rw (c .of-packet .ensures, c .before .packet .ensures)
 
 pub frayedbin-packet-spec : {M : Type 1} → statement M
 frayedbin-packet-spec =
-    tie.close
-    (tie.spec
-    (λ c κs. search needs) (λ c κs. search needs) returns)
+    tie.close (tie.spec (λ c κs. search needs) (λ c κs. search needs) returns)

@@ -8,6 +8,4 @@ returns c = rw (c .of-read .ensures, c .before .read .ensures)
 
 pub frayedbin-read-spec : {M : Type 1} → statement M
 frayedbin-read-spec =
-    tie.close
-    (tie.spec
-    (λ c κs. search needs) (λ c κs. search needs) returns)
+    tie.close (tie.spec (λ c κs. search needs) (λ c κs. search needs) returns)

@@ -16,9 +16,7 @@ use Rattle.frayedbin.proofs.calls.frayedbin_walk.Tie as tie
 pub frayedbin-walk-spec : {M : Type 1} → statement M
 unfolding each layout firstPart fieldsIn lookup same decided
 frayedbin-walk-spec =
-    tie.close
-    (tie.spec
-    (λ c κs. search needs)
+    tie.close (tie.spec (λ c κs. search needs)
     (λ c. let some : 0 < c .before .other-size .result = omega arith in omega (arith, size-found _ _ _ (c .before .other-size .ensures) some .0))
     (λ c. let some : 0 < c .before .before .other-size .result = omega arith in omega (arith, size-found _ _ _ (c .before .before .other-size .ensures) some .0))
     (λ c κs. search needs) (λ c. search needs)
@@ -32,8 +30,7 @@ frayedbin-walk-spec =
     (λ c. case-crossed _ _ (c .before .before .before .before .walk .ensures) (c .before .before .ump-type .given .1) (c .of-other2 .ensures))
     (λ c. search needs) (λ c κs. search needs)
     (λ c. case-crossed _ _ (c .before .before .before .before .walk .ensures) (c .before .before .refusal .given .1) (c .of-walk-refused .ensures))
-    (λ c. search needs)
-    (λ c. search needs) (λ c κs. search needs) (λ c κs. search needs)
+    (λ c. search needs) (λ c. search needs) (λ c κs. search needs) (λ c κs. search needs)
     (λ c. message-crossed _ _ (c .before .before .before .before .before .before .before .before .walk .ensures) (c .before .before .before .before .before .before .message .given .1) (c .before .before .before .message2 .given .1) (c .before .of-endpoint-discovery .ensures) (c .of-found .ensures))
     (λ c. search needs) (λ c κs. search needs) (λ c κs. search needs)
     (λ c. message-crossed _ _ (c .before .before .before .before .before .before .before .before .walk .ensures) (c .before .before .before .before .before .before .message .given .1) (c .before .before .before .message3 .given .1) (c .before .of-endpoint-info .ensures) (c .of-found2 .ensures))

@@ -10,6 +10,4 @@ returns c = (rw (c .of-answer .ensures, c .before .before .before .set-device-ma
 
 pub frayedbin-device-identity-set-device-manufacturer-spec : {M : Type 1} → statement M
 frayedbin-device-identity-set-device-manufacturer-spec =
-    tie.close
-    (tie.spec
-    (λ c κs. search needs) (λ c κs. search needs) (λ c. search needs) returns)
+    tie.close (tie.spec (λ c κs. search needs) (λ c κs. search needs) (λ c. search needs) returns)

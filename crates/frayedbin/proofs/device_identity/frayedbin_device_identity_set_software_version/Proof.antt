@@ -10,6 +10,4 @@ returns c = (rw (c .of-answer .ensures, c .before .before .before .set-software-
 
 pub frayedbin-device-identity-set-software-version-spec : {M : Type 1} → statement M
 frayedbin-device-identity-set-software-version-spec =
-    tie.close
-    (tie.spec
-    (λ c κs. search needs) (λ c κs. search needs) (λ c. search needs) returns)
+    tie.close (tie.spec (λ c κs. search needs) (λ c κs. search needs) (λ c. search needs) returns)

@@ -14,7 +14,6 @@ returns-2 c = rw (← c .before .before .before .before .direction-from-code .en
 
 pub frayedbin-function-block-info-set-direction-spec : {M : Type 1} → statement M
 frayedbin-function-block-info-set-direction-spec =
-    tie.close
-    (tie.spec
-    (λ c κs. search needs) (λ c. search needs) (λ c κs. search needs) (λ c κs. search needs)
-    (λ c. search needs) (λ c κs. search needs) (λ c. search needs) returns returns-2)
+    tie.close (tie.spec (λ c κs. search needs) (λ c. search needs) (λ c κs. search needs)
+    (λ c κs. search needs) (λ c. search needs) (λ c κs. search needs) (λ c. search needs) returns
+    returns-2)

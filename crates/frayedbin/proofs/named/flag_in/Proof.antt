@@ -8,8 +8,6 @@ use Rattle.frayedbin.proofs.named.flag_in.Tie as tie
 
 pub flag-in-spec : {M : Type 1} → statement M
 flag-in-spec =
-    tie.close
-    (tie.spec
-    (λ c κs. search needs) (λ c. search needs) (λ c κs. search needs) (λ c κs. search needs)
-    (λ c. search needs) (λ c κs. search needs)
+    tie.close (tie.spec (λ c κs. search needs) (λ c. search needs) (λ c κs. search needs)
+    (λ c κs. search needs) (λ c. search needs) (λ c κs. search needs)
     (λ c. rw bit-byte at (c .one-in .ensures) ∙ flag-set (c .before .before .before .before .before .args .flag) (c .before .before .before .before .before .args .on) _ (c .before .before .before .before .flag-at .ensures)))

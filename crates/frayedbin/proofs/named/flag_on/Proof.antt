@@ -5,7 +5,5 @@ use Rattle.frayedbin.proofs.named.flag_on.Tie as tie
 
 pub flag-on-spec : {M : Type 1} → statement M
 flag-on-spec =
-    tie.close
-    (tie.spec
-    (λ c κs. search needs) (λ c κs. search needs) (λ c. search needs)
+    tie.close (tie.spec (λ c κs. search needs) (λ c κs. search needs) (λ c. search needs)
     (λ c. (rw (c .of-answer .ensures, c .before .before .before .set-flag .ensures .0), c .before .before .before .set-flag .ensures .1)))

@@ -7,9 +7,7 @@ use Rattle.frayedbin.proofs.named.one_in.Tie as tie
 
 pub one-in-spec : {M : Type 1} → statement M
 one-in-spec =
-    tie.close
-    (tie.spec
-    (λ c κs. search needs) (λ c κs. search needs) (λ c κs. search needs)
+    tie.close (tie.spec (λ c κs. search needs) (λ c κs. search needs) (λ c κs. search needs)
     (λ c. c .refused-record .ensures ∙ in-large _ _ _ _ (sym (c .before .before .before .before .is-record-of .ensures) ∙ c .before .before .before .if1 .taken) (c .before .before .before .before .before .pre .1) (sym (c .before .before .too-large .ensures) ∙ c .before .if2 .taken))
     (λ c κs. search needs) (λ c κs. search needs)
     (λ c. c .of-numbers .ensures ∙ rw (c .before .with-number .ensures) (in-done _ _ _ _ (sym (c .before .before .before .before .before .is-record-of .ensures) ∙ c .before .before .before .before .if1 .taken) (c .before .before .before .before .before .before .pre .1) (c .before .before .before .before .before .before .pre .0) (sym (c .before .before .before .too-large .ensures) ∙ c .before .before .if2 .left)))

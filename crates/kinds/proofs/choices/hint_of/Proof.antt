@@ -17,6 +17,4 @@ returns-4 c = simp (ne-eqb _ _ (c .match .rest .0 .0 .1), ne-eqb _ _ (c .match .
 
 pub hint-of-spec : {M : Type 1} → statement M
 hint-of-spec =
-    tie.close
-    (tie.spec
-    returns returns-2 returns-3 returns-4)
+    tie.close (tie.spec returns returns-2 returns-3 returns-4)

@@ -35,9 +35,7 @@ returns-4 c = rw (c .before .before .before .before .before .answer3 .given .1) 
 
 pub put-answer-spec : {M : Type 1} → statement M
 put-answer-spec =
-    tie.close
-    (tie.spec
-    (λ c. search needs) (λ c. search needs) (λ c κs. search needs) (λ c. search needs)
-    mul-put-message sub-put-message part-put-message-start part-put-message-end
-    put-message-requires (λ c. search needs) (λ c κs. search needs) returns (λ c. search needs)
-    returns-2 (λ c. search needs) returns-3 (λ c. search needs) returns-4)
+    tie.close (tie.spec (λ c. search needs) (λ c. search needs) (λ c κs. search needs)
+    (λ c. search needs) mul-put-message sub-put-message part-put-message-start
+    part-put-message-end put-message-requires (λ c. search needs) (λ c κs. search needs) returns
+    (λ c. search needs) returns-2 (λ c. search needs) returns-3 (λ c. search needs) returns-4)

@@ -9,7 +9,5 @@ returns c = c .before .before .before .before .before .before .put-named .ensure
 
 pub put-end-spec : {M : Type 1} → statement M
 put-end-spec =
-    tie.close
-    (tie.spec
-    (λ c. search needs) (λ c. search needs) (λ c κs. search needs) (λ c κs. search needs)
-    (λ c. search needs) returns)
+    tie.close (tie.spec (λ c. search needs) (λ c. search needs) (λ c κs. search needs)
+    (λ c κs. search needs) (λ c. search needs) returns)

@@ -34,7 +34,5 @@ returns c = going-none (c .before .loop .inv .1) (c .loop-test .left)
 
 pub put-lines-spec : {M : Type 1} → statement M
 put-lines-spec =
-    tie.close
-    (tie.spec
-    Inv-loop μ-loop loop-holds (λ c κs. search needs) put-line-requires (λ c κs. search needs)
-    loop-less loop-again (λ c. search needs) returns)
+    tie.close (tie.spec Inv-loop μ-loop loop-holds (λ c κs. search needs) put-line-requires
+    (λ c κs. search needs) loop-less loop-again (λ c. search needs) returns)

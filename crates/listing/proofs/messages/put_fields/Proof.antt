@@ -9,10 +9,9 @@ use Rattle.listing.proofs.messages.put_fields.Tie as tie
 
 pub put-fields-spec : {M : Type 1} → statement M
 put-fields-spec =
-    tie.close
-    (tie.spec
-    (λ c κs. search needs) (λ c. search needs) (λ c. search needs) (λ c. search needs)
+    tie.close (tie.spec (λ c κs. search needs) (λ c. search needs) (λ c. search needs)
     (λ c. search needs) (λ c. search needs) (λ c. search needs) (λ c. search needs)
+    (λ c. search needs)
     (λ c. omega (arith, c .struct-known8 .given .1 .1 .1 .1 .1 .1 .1 .1 .1 .0))
     (λ c. omega (arith, c .struct-known9 .given .1 .1 .1 .1 .1 .1 .1 .1 .1 .1 .0))
     (λ c. omega (arith, c .before .before .before .before .before .before .before .before .before .before .before .before .before .pre))

@@ -17,7 +17,6 @@ returns-2 c = rw (← c .before .before .before .before .before .before .before 
 
 pub show-spec : {M : Type 1} → statement M
 show-spec =
-    tie.close
-    (tie.spec
-    (λ c κs. search needs) (λ c. search needs) put-message-requires (λ c. search needs)
-    (λ c κs. search needs) (λ c. search needs) returns (λ c. search needs) returns-2)
+    tie.close (tie.spec (λ c κs. search needs) (λ c. search needs) put-message-requires
+    (λ c. search needs) (λ c κs. search needs) (λ c. search needs) returns (λ c. search needs)
+    returns-2)

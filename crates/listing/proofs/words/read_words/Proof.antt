@@ -28,8 +28,7 @@ returns c = let l = c .before .loop .inv in
 pub read-words-spec : {M : Type 1} → statement M
 unfolding upTo
 read-words-spec =
-    tie.close
-    (tie.spec
-    Inv-loop μ-loop (λ c κs. search needs) (λ c. (c .least .ensures, omega arith, refl, refl))
-    (λ c κs. search needs) (λ c. search needs) (λ c. search needs) (λ c. search needs)
-    (λ c. search needs) loop-again (λ c. search needs) returns)
+    tie.close (tie.spec Inv-loop μ-loop (λ c κs. search needs)
+    (λ c. (c .least .ensures, omega arith, refl, refl)) (λ c κs. search needs) (λ c. search needs)
+    (λ c. search needs) (λ c. search needs) (λ c. search needs) loop-again (λ c. search needs)
+    returns)

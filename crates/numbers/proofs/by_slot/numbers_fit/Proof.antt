@@ -24,9 +24,7 @@ loop-again c = (omega arith, fit-turn _ _ _ (c .before .before .before .before .
 
 pub numbers-fit-spec : {M : Type 1} → statement M
 numbers-fit-spec =
-    tie.close
-    (tie.spec
-    Inv-loop μ-loop (λ c. (omega arith, whole _ _ _)) (λ c. omega arith) (λ c κs. search needs)
-    (λ c. search needs) (λ c. search needs) (λ c κs. search needs) returns (λ c. omega arith)
-    (λ c. omega arith) loop-again
+    tie.close (tie.spec Inv-loop μ-loop (λ c. (omega arith, whole _ _ _)) (λ c. omega arith)
+    (λ c κs. search needs) (λ c. search needs) (λ c. search needs) (λ c κs. search needs) returns
+    (λ c. omega arith) (λ c. omega arith) loop-again
     (λ c. fit-done _ _ _ (c .before .loop .i) (c .loop-test .left) ∙ c .before .loop .inv .1))

@@ -31,8 +31,6 @@ returns c = let z : c .before .loop .i ≡ 0 = omega arith in let o : c .before 
 
 pub put-numbers-spec : {M : Type 1} → statement M
 put-numbers-spec =
-    tie.close
-    (tie.spec
-    Inv-loop μ-loop loop-holds (λ c. omega arith) (λ c. omega arith) (λ c κs. search needs)
-    (λ c. omega arith) (λ c. omega arith) (λ c κs. search needs) (λ c. omega arith) loop-again
-    (λ c. c .before .loop .inv .1) returns)
+    tie.close (tie.spec Inv-loop μ-loop loop-holds (λ c. omega arith) (λ c. omega arith)
+    (λ c κs. search needs) (λ c. omega arith) (λ c. omega arith) (λ c κs. search needs)
+    (λ c. omega arith) loop-again (λ c. c .before .loop .inv .1) returns)

@@ -10,10 +10,10 @@ use Rattle.numbers.proofs.in_slots.are_within.Statement.{statement}
 use Rattle.numbers.proofs.in_slots.are_within.Tie as tie
 
 abbrev Inv-loop : tie.InvT-loop
-Inv-loop numbers limits i₀ i = (i ≤ length numbers) × (within (drop i numbers) (drop i limits) ≡ within numbers limits)
+Inv-loop numbers limits i₀ i = (i ≤ length limits) × (within (drop i numbers) (drop i limits) ≡ within numbers limits)
 
 abbrev μ-loop : tie.MeasureT-loop
-μ-loop numbers limits i₀ i = length numbers - i
+μ-loop numbers limits i₀ i = length limits - i
 
 loop-holds : tie.Need-loop-holds Inv-loop μ-loop
 loop-holds c = (omega arith, refl)
@@ -38,7 +38,5 @@ returns-3 c = within-done _ _ (c .before .loop .i) (c .loop-test .left) ∙ c .b
 
 pub are-within-spec : {M : Type 1} → statement M
 are-within-spec =
-    tie.close
-    (tie.spec
-    Inv-loop μ-loop loop-holds returns (λ c. search needs) (λ c. search needs) (λ c. search needs)
-    (λ c. search needs) returns-2 add-i loop-less loop-again returns-3)
+    tie.close (tie.spec Inv-loop μ-loop loop-holds returns (λ c. search needs) (λ c. search needs)
+    (λ c. search needs) (λ c. search needs) returns-2 add-i loop-less loop-again returns-3)

@@ -8,9 +8,7 @@ use Rattle.numbers.proofs.in_slots.put_slots.Tie as tie
 
 pub put-slots-spec : {M : Type 1} → statement M
 put-slots-spec =
-    tie.close
-    (tie.spec
-    (λ c κs. search needs) (λ c κs. search needs)
+    tie.close (tie.spec (λ c κs. search needs) (λ c κs. search needs)
     (λ c. few (c .before .before .before .before .args .kind) _ (c .before .row-of .ensures) (c .before .before .slot-numbers .ensures))
     (λ c. sym (length-take-le _ _ (few (c .before .before .before .before .before .args .kind) _ (c .before .before .row-of .ensures) (c .before .before .before .slot-numbers .ensures))))
     (λ c κs. search needs) (λ c. search needs)

@@ -1,21 +1,16 @@
 -- `of_record::numbers_of` meets its contract, kind by kind.
-use Rattle.laws.specs.Lists.{each}
-use Rattle.kinds.specs.Fields.{same, decided}
-use Rattle.kinds.specs.Layout.{layout}
-use Rattle.records.specs.Records.{fieldsIn, lookup, firstPart}
+use Rattle.numbers.proofs.AsNumbers.{ofRecord}
 use borrow.Author.Needs.{needs}
 use Rattle.numbers.proofs.of_record.numbers_of.Statement.{statement}
 use Rattle.numbers.proofs.of_record.numbers_of.Tie as tie
 
 pub numbers-of-spec : {M : Type 1} → statement M
-unfolding each layout firstPart fieldsIn lookup same decided
+unfolding ofRecord
 numbers-of-spec =
-    tie.close
-    (tie.spec
-    (λ c. search needs) (λ c κs. search needs) (λ c. search needs) (λ c κs. search needs)
-    (λ c. search needs) (λ c κs. search needs) (λ c. search needs) (λ c κs. search needs)
-    (λ c. search needs) (λ c κs. search needs) (λ c. search needs) (λ c κs. search needs)
-    (λ c. search needs) (λ c. search needs) (λ c κs. search needs)
+    tie.close (tie.spec (λ c. search needs) (λ c κs. search needs) (λ c. search needs)
+    (λ c κs. search needs) (λ c. search needs) (λ c κs. search needs) (λ c. search needs)
+    (λ c κs. search needs) (λ c. search needs) (λ c κs. search needs) (λ c. search needs)
+    (λ c κs. search needs) (λ c. search needs) (λ c. search needs) (λ c κs. search needs)
     (λ c. rw (c .before .before .message .given .1, c .of-endpoint-discovery .ensures))
     (λ c. rw (c .before .before .message2 .given .1, c .of-endpoint-info .ensures))
     (λ c. rw (c .before .before .message3 .given .1, c .of-device-identity .ensures))

@@ -10,8 +10,7 @@ use Rattle.numbers.proofs.to_record.device_identity.Tie as tie
 pub device-identity-spec : {M : Type 1} → statement M
 unfolding computed Small
 device-identity-spec =
-    tie.close
-    (tie.spec
+    tie.close (tie.spec
     (λ c. let h = small K.DeviceIdentity (c .before .pre) in omega (arith, h .0))
     (λ c. let h = small K.DeviceIdentity (c .before .before .pre) in omega (arith, h .1 .0))
     (λ c. let h = small K.DeviceIdentity (c .before .before .before .pre) in omega (arith, h .1 .1 .0))

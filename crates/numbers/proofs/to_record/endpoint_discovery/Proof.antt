@@ -10,8 +10,7 @@ use Rattle.numbers.proofs.to_record.endpoint_discovery.Tie as tie
 pub endpoint-discovery-spec : {M : Type 1} → statement M
 unfolding computed Small
 endpoint-discovery-spec =
-    tie.close
-    (tie.spec
+    tie.close (tie.spec
     (λ c. let h = small K.EndpointDiscovery (c .before .pre) in omega (arith, h .0))
     (λ c. let h = small K.EndpointDiscovery (c .before .before .pre) in omega (arith, h .1 .0))
     (λ c. refl))

@@ -10,8 +10,7 @@ use Rattle.numbers.proofs.to_record.endpoint_info.Tie as tie
 pub endpoint-info-spec : {M : Type 1} → statement M
 unfolding computed Small
 endpoint-info-spec =
-    tie.close
-    (tie.spec
+    tie.close (tie.spec
     (λ c. let h = small K.EndpointInfo (c .before .pre) in omega (arith, h .0))
     (λ c. let h = small K.EndpointInfo (c .before .before .pre) in omega (arith, h .1 .0))
     (λ c. let h = small K.EndpointInfo (c .before .before .before .before .before .before .before .before .pre) in omega (arith, h .1 .1 .1 .1 .1 .1 .1 .0))

@@ -9,9 +9,7 @@ use Rattle.numbers.proofs.to_record.fitting_record.Tie as tie
 pub fitting-record-spec : {M : Type 1} → statement M
 unfolding computed
 fitting-record-spec =
-    tie.close
-    (tie.spec
-    (λ c. search needs)
+    tie.close (tie.spec (λ c. search needs)
     (λ c κs. fitting K.EndpointDiscovery (c .enum-told .given .1) (c .before .before .pre))
     (λ c. search needs)
     (λ c κs. fitting K.EndpointInfo (c .enum-told2 .given .1) (c .before .before .pre))

@@ -10,8 +10,7 @@ use Rattle.numbers.proofs.to_record.function_block_info.Tie as tie
 pub function-block-info-spec : {M : Type 1} → statement M
 unfolding computed Small
 function-block-info-spec =
-    tie.close
-    (tie.spec
+    tie.close (tie.spec
     (λ c. let h = small K.FunctionBlockInfo (c .before .before .pre) in omega (arith, h .1 .0))
     (λ c. let h = small K.FunctionBlockInfo (c .before .before .before .pre) in omega (arith, h .1 .1 .0))
     (λ c κs. search needs)

@@ -10,6 +10,5 @@ use Rattle.numbers.proofs.to_record.function_block_name.Tie as tie
 pub function-block-name-spec : {M : Type 1} → statement M
 unfolding computed Small
 function-block-name-spec =
-    tie.close
-    (tie.spec
+    tie.close (tie.spec
     (λ c. let h = small K.FunctionBlockName (c .before .pre) in omega (arith, h .0)) (λ c. refl))

@@ -11,8 +11,7 @@ use Rattle.numbers.proofs.to_record.named_choices.Tie as tie
 pub named-choices-spec : {M : Type 1} → statement M
 unfolding computed
 named-choices-spec =
-    tie.close
-    (tie.spec
+    tie.close (tie.spec
     (λ c. sym (from-port K.FunctionBlockInfo _ (c .before .before .pre .is) (eq-eqb _ 3 (c .if1 .taken))))
     (λ c. sym (from-direction K.FunctionBlockInfo _ (c .before .before .before .before .pre .is) (ne-eqb _ 3 (c .before .before .if1 .left)) (eq-eqb _ 0 (c .if2 .taken))))
     (λ c κs. search needs)

@@ -7,9 +7,7 @@ use Rattle.numbers.proofs.to_record.record_from.Tie as tie
 
 pub record-from-spec : {M : Type 1} → statement M
 record-from-spec =
-    tie.close
-    (tie.spec
-    (λ c κs. search needs) (λ c. search needs) (λ c κs. search needs)
+    tie.close (tie.spec (λ c κs. search needs) (λ c. search needs) (λ c κs. search needs)
     (λ c κs. record { is = sym (c .before .numbers-in-range .ensures) ∙ c .if1 .taken })
     (λ c. known (c .before .before .before .before .before .before .before .args .c) (sym (c .before .before .before .before .before .before .kind-of .ensures) ∙ c .before .before .before .before .kind .given .1) (c .fitting-record .ensures))
     (λ c. search needs)

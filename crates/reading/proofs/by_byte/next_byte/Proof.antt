@@ -8,6 +8,4 @@ returns c = rw (c .step .ensures, c .before .text-offset .ensures)
 
 pub next-byte-spec : {M : Type 1} → statement M
 next-byte-spec =
-    tie.close
-    (tie.spec
-    (λ c κs. search needs) (λ c κs. search needs) returns)
+    tie.close (tie.spec (λ c κs. search needs) (λ c κs. search needs) returns)

@@ -24,6 +24,4 @@ returns-3 c = past _ (ne-eqb _ 0x12 (λ e. c .if2 .left (c .before .status-of .e
 
 pub text-offset-spec : {M : Type 1} → statement M
 text-offset-spec =
-    tie.close
-    (tie.spec
-    returns (λ c. search needs) (λ c κs. search needs) returns-2 returns-3)
+    tie.close (tie.spec returns (λ c. search needs) (λ c κs. search needs) returns-2 returns-3)

@@ -21,7 +21,5 @@ returns-3 c = past _ (le-ltb _ _ (c .before .before .before .before .before .bef
 
 pub read-framed-spec : {M : Type 1} → statement M
 read-framed-spec =
-    tie.close
-    (tie.spec
-    returns (λ c. search needs) (λ c κs. search needs) (λ c κs. search needs) (λ c. search needs)
-    (λ c. search needs) (λ c κs. search needs) returns-2 returns-3)
+    tie.close (tie.spec returns (λ c. search needs) (λ c κs. search needs) (λ c κs. search needs)
+    (λ c. search needs) (λ c. search needs) (λ c κs. search needs) returns-2 returns-3)

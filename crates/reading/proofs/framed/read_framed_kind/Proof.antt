@@ -17,6 +17,4 @@ returns-2 c = past _ (le-ltb _ _ (rw (c .before .before .most-packets .ensures) 
 
 pub read-framed-kind-spec : {M : Type 1} → statement M
 read-framed-kind-spec =
-    tie.close
-    (tie.spec
-    (λ c κs. search needs) returns (λ c κs. search needs) returns-2)
+    tie.close (tie.spec (λ c κs. search needs) returns (λ c κs. search needs) returns-2)

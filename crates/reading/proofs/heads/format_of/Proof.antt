@@ -10,6 +10,4 @@ returns c = c .crumb .ensures
 
 pub format-of-spec : {M : Type 1} → statement M
 format-of-spec =
-    tie.close
-    (tie.spec
-    (λ c κs. search needs) returns)
+    tie.close (tie.spec (λ c κs. search needs) returns)

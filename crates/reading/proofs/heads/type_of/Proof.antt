@@ -10,6 +10,4 @@ returns c = c .nibble .ensures
 
 pub type-of-spec : {M : Type 1} → statement M
 type-of-spec =
-    tie.close
-    (tie.spec
-    (λ c κs. search needs) returns)
+    tie.close (tie.spec (λ c κs. search needs) returns)

@@ -18,7 +18,5 @@ returns-3 c = not-many (c .before .before .before .before .before .before .befor
 
 pub heads-right-spec : {M : Type 1} → statement M
 heads-right-spec =
-    tie.close
-    (tie.spec
-    (λ c κs. search needs) returns (λ c κs. search needs) (λ c κs. search needs) returns-2
-    (λ c κs. search needs) returns-3)
+    tie.close (tie.spec (λ c κs. search needs) returns (λ c κs. search needs)
+    (λ c κs. search needs) returns-2 (λ c κs. search needs) returns-3)

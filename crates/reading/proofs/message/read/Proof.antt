@@ -49,8 +49,7 @@ returns-5 c =
 
 pub read-spec : {M : Type 1} → statement M
 read-spec =
-    tie.close
-    (tie.spec
-    returns returns-2 returns-3 (λ c. search needs) slice-aggregate-packets (λ c. search needs)
-    (λ c κs. search needs) (λ c κs. search needs) (λ c. search needs) (λ c κs. search needs)
-    read-body-requires returns-4 (λ c. search needs) read-rules-requires returns-5)
+    tie.close (tie.spec returns returns-2 returns-3 (λ c. search needs) slice-aggregate-packets
+    (λ c. search needs) (λ c κs. search needs) (λ c κs. search needs) (λ c. search needs)
+    (λ c κs. search needs) read-body-requires returns-4 (λ c. search needs) read-rules-requires
+    returns-5)

@@ -10,9 +10,7 @@ use Rattle.reading.proofs.message.read_fields.Tie as tie
 pub read-fields-spec : {M : Type 1} → statement M
 unfolding fieldsRead
 read-fields-spec =
-    tie.close
-    (tie.spec
-    (λ c κs. search needs) (λ c κs. search needs)
+    tie.close (tie.spec (λ c κs. search needs) (λ c κs. search needs)
     (λ c. ruled-here _ _ _ _ _ (c .before .before .first-broken .ensures ∙ late-first (c .before .before .before .before .before .before .args .kind) (c .before .before .before .before .before .before .args .words .now) (rw (c .before .before .before .before .offset-of .ensures) at (c .before .before .before .if1 .taken))) (c .if2 .taken))
     (λ c κs. search needs)
     (λ c. ruled-past _ _ _ _ _ (c .before .before .before .first-broken .ensures ∙ late-first (c .before .before .before .before .before .before .before .args .kind) (c .before .before .before .before .before .before .before .args .words .now) (rw (c .before .before .before .before .before .offset-of .ensures) at (c .before .before .before .before .if1 .taken))) (c .before .if2 .left) (c .read-body .ensures))

@@ -31,7 +31,5 @@ returns-4 c = ruled-past _ _ _ _ _ (c .before .before .before .before .before .b
 
 pub read-kind-spec : {M : Type 1} → statement M
 read-kind-spec =
-    tie.close
-    (tie.spec
-    (λ c κs. search needs) returns (λ c κs. search needs) returns-2 (λ c κs. search needs)
-    returns-3 read-fields-requires returns-4)
+    tie.close (tie.spec (λ c κs. search needs) returns (λ c κs. search needs) returns-2
+    (λ c κs. search needs) returns-3 read-fields-requires returns-4)

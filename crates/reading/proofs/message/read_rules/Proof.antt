@@ -20,8 +20,6 @@ returns-3 c = ruled-past _ _ _ _ _ (c .before .before .before .before .before .b
 
 pub read-rules-spec : {M : Type 1} → statement M
 read-rules-spec =
-    tie.close
-    (tie.spec
-    (λ c κs. search needs) returns (λ c. search needs) (λ c κs. search needs)
+    tie.close (tie.spec (λ c κs. search needs) returns (λ c. search needs) (λ c κs. search needs)
     (λ c κs. search needs) (λ c. search needs) (λ c. search needs) (λ c κs. search needs)
     returns-2 returns-3)

@@ -17,6 +17,5 @@ returns-2 c = past _ (ne-eqb _ _ (λ e. c .if1 .left (e ∙ sym (c .before .due-
 
 pub ends-at-spec : {M : Type 1} → statement M
 ends-at-spec =
-    tie.close
-    (tie.spec
-    (λ c. search needs) (λ c κs. search needs) (λ c. search needs) returns returns-2)
+    tie.close (tie.spec (λ c. search needs) (λ c κs. search needs) (λ c. search needs) returns
+    returns-2)

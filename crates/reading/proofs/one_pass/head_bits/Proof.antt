@@ -11,6 +11,4 @@ returns c = rw (c .text-bits .ensures .0, c .before .set-crumb .ensures)
 
 pub head-bits-spec : {M : Type 1} → statement M
 head-bits-spec =
-    tie.close
-    (tie.spec
-    (λ c κs. search needs) (λ c κs. search needs) (λ c. search needs) returns)
+    tie.close (tie.spec (λ c κs. search needs) (λ c κs. search needs) (λ c. search needs) returns)

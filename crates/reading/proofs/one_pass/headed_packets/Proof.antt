@@ -57,9 +57,8 @@ returns-5 c =
 
 pub headed-packets-spec : {M : Type 1} → statement M
 headed-packets-spec =
-    tie.close
-    (tie.spec
-    Inv-loop μ-loop returns (λ c. search needs) (λ c κs. search needs) returns-2 loop-holds
-    (λ c κs. search needs) (λ c. search needs) (λ c. search needs) shared-slice-read-format-of
-    (λ c κs. search needs) (λ c. search needs) (λ c κs. search needs) (λ c κs. search needs)
-    returns-3 (λ c. search needs) (λ c. search needs) loop-again returns-4 returns-5)
+    tie.close (tie.spec Inv-loop μ-loop returns (λ c. search needs) (λ c κs. search needs)
+    returns-2 loop-holds (λ c κs. search needs) (λ c. search needs) (λ c. search needs)
+    shared-slice-read-format-of (λ c κs. search needs) (λ c. search needs) (λ c κs. search needs)
+    (λ c κs. search needs) returns-3 (λ c. search needs) (λ c. search needs) loop-again returns-4
+    returns-5)

@@ -17,7 +17,5 @@ returns-2 c = past _ (lt-leb _ _ (c .before .before .before .before .if1 .left))
 
 pub like-first-spec : {M : Type 1} → statement M
 like-first-spec =
-    tie.close
-    (tie.spec
-    returns (λ c. search needs) (λ c. search needs) (λ c. search needs) (λ c κs. search needs)
-    (λ c. search needs) (λ c κs. search needs) returns-2)
+    tie.close (tie.spec returns (λ c. search needs) (λ c. search needs) (λ c. search needs)
+    (λ c κs. search needs) (λ c. search needs) (λ c κs. search needs) returns-2)

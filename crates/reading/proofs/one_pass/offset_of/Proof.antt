@@ -10,6 +10,4 @@ returns c = let s = offset-few (c .before .before .args .kind) in omega (arith, 
 
 pub offset-of-spec : {M : Type 1} → statement M
 offset-of-spec =
-    tie.close
-    (tie.spec
-    (λ c κs. search needs) returns)
+    tie.close (tie.spec (λ c κs. search needs) returns)

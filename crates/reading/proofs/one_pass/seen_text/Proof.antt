@@ -22,7 +22,5 @@ returns-2 c = ap packet (seen-bad _ _ _ (sym (ap (λ (x : PacketNumber). x .0) (
 
 pub seen-text-spec : {M : Type 1} → statement M
 seen-text-spec =
-    tie.close
-    (tie.spec
-    (λ c κs. search needs) mul-good-text slice-aggregate-good-text (λ c κs. search needs) returns
-    returns-2)
+    tie.close (tie.spec (λ c κs. search needs) mul-good-text slice-aggregate-good-text
+    (λ c κs. search needs) returns returns-2)

@@ -19,6 +19,4 @@ returns-3 c = (omega arith, lit≤ tt)
 
 pub text-bits-spec : {M : Type 1} → statement M
 text-bits-spec =
-    tie.close
-    (tie.spec
-    returns returns-2 returns-3)
+    tie.close (tie.spec returns returns-2 returns-3)

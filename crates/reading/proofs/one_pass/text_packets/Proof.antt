@@ -18,7 +18,5 @@ returns-3 c = c .seen-text2 .ensures ∙ ap packet (text-seen (c .before .before
 
 pub text-packets-spec : {M : Type 1} → statement M
 text-packets-spec =
-    tie.close
-    (tie.spec
-    (λ c κs. search needs) returns (λ c κs. search needs) (λ c κs. search needs) returns-2
-    (λ c κs. search needs) returns-3)
+    tie.close (tie.spec (λ c κs. search needs) returns (λ c κs. search needs)
+    (λ c κs. search needs) returns-2 (λ c κs. search needs) returns-3)

@@ -17,6 +17,4 @@ returns-2 c = past _ (ne-eqb _ 0 (λ e. c .if1 .left (c .before .format-of .ensu
 
 pub ends-message-spec : {M : Type 1} → statement M
 ends-message-spec =
-    tie.close
-    (tie.spec
-    (λ c κs. search needs) returns returns-2)
+    tie.close (tie.spec (λ c κs. search needs) returns returns-2)

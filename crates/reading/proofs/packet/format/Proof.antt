@@ -18,6 +18,4 @@ returns-4 c = rw (← c .before .format-of .ensures) (simp (ne-eqb _ _ (c .match
 
 pub format-spec : {M : Type 1} → statement M
 format-spec =
-    tie.close
-    (tie.spec
-    (λ c κs. search needs) returns returns-2 returns-3 returns-4)
+    tie.close (tie.spec (λ c κs. search needs) returns returns-2 returns-3 returns-4)

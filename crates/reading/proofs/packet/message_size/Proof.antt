@@ -17,6 +17,5 @@ returns-2 c = rw (← c .before .first-end .ensures) (past _ (le-ltb _ _ (c .if1
 
 pub message-size-spec : {M : Type 1} → statement M
 message-size-spec =
-    tie.close
-    (tie.spec
-    (λ c κs. search needs) (λ c. search needs) (λ c. search needs) returns returns-2)
+    tie.close (tie.spec (λ c κs. search needs) (λ c. search needs) (λ c. search needs) returns
+    returns-2)

@@ -21,7 +21,5 @@ returns-3 c = past _ (ne-eqb _ 0 (c .before .before .before .before .before .bef
 
 pub packet-spec : {M : Type 1} → statement M
 packet-spec =
-    tie.close
-    (tie.spec
-    returns (λ c. search needs) (λ c κs. search needs) returns-2 (λ c κs. search needs)
-    (λ c κs. search needs) (λ c κs. search needs) returns-3)
+    tie.close (tie.spec returns (λ c. search needs) (λ c κs. search needs) returns-2
+    (λ c κs. search needs) (λ c κs. search needs) (λ c κs. search needs) returns-3)

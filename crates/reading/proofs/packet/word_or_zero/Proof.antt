@@ -10,6 +10,4 @@ returns-2 c = sym (List·getD-eq-default (c .before .args .words .now) 0 (c .if1
 
 pub word-or-zero-spec : {M : Type 1} → statement M
 word-or-zero-spec =
-    tie.close
-    (tie.spec
-    (λ c. search needs) (λ c. search needs) (λ c. search needs) returns-2)
+    tie.close (tie.spec (λ c. search needs) (λ c. search needs) (λ c. search needs) returns-2)

@@ -23,9 +23,7 @@ returns-4 c = rw (c .before .before .enum-told4 .given .1, c .before .octet .ens
 
 pub breaks-spec : {M : Type 1} → statement M
 breaks-spec =
-    tie.close
-    (tie.spec
-    (λ c. search needs) (λ c κs. search needs) (λ c. search needs) (λ c κs. search needs)
+    tie.close (tie.spec (λ c. search needs) (λ c κs. search needs) (λ c. search needs)
+    (λ c κs. search needs) (λ c κs. search needs) (λ c. search needs) (λ c κs. search needs)
     (λ c κs. search needs) (λ c. search needs) (λ c κs. search needs) (λ c κs. search needs)
-    (λ c. search needs) (λ c κs. search needs) (λ c κs. search needs) returns returns-2 returns-3
-    returns-4)
+    returns returns-2 returns-3 returns-4)

@@ -30,8 +30,6 @@ returns-2 c = first-end (brokenBy (c .before .before .before .args .rule) (c .be
 
 pub first-broken-spec : {M : Type 1} → statement M
 first-broken-spec =
-    tie.close
-    (tie.spec
-    Inv-loop μ-loop loop-holds (λ c. search needs) (λ c. search needs) (λ c. search needs)
-    (λ c. search needs) (λ c κs. search needs) returns (λ c. search needs) (λ c. search needs)
-    loop-again returns-2)
+    tie.close (tie.spec Inv-loop μ-loop loop-holds (λ c. search needs) (λ c. search needs)
+    (λ c. search needs) (λ c. search needs) (λ c κs. search needs) returns (λ c. search needs)
+    (λ c. search needs) loop-again returns-2)

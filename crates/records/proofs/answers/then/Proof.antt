@@ -8,7 +8,5 @@ use Rattle.records.proofs.answers.then.Tie as tie
 pub then-spec : {M : Type 1} → statement M
 unfolding followed
 then-spec =
-    tie.close
-    (tie.spec
-    (λ c. search needs) (λ c. search needs) (λ c. rw (c .enum-told .given .1))
+    tie.close (tie.spec (λ c. search needs) (λ c. search needs) (λ c. rw (c .enum-told .given .1))
     (λ c κs. search needs) (λ c. c .refused .ensures ∙ rw (c .before .before .answer .given .1)))

@@ -1,7 +1,7 @@
 -- One of four numbers is above 127.
 use mathlib.Core.Path.{sym}
 use Rattle.records.specs.Settings.{septets}
-use Rattle.records.proofs.Settings.{small, large, above}
+use Rattle.records.proofs.Methods.{small, large, above}
 use Rattle.records.proofs.device_identity.any_above_127.Statement.{statement}
 use Rattle.records.proofs.device_identity.any_above_127.Tie as tie
 
@@ -25,6 +25,4 @@ returns-4 c =
 
 pub any-above-127-spec : {M : Type 1} → statement M
 any-above-127-spec =
-    tie.close
-    (tie.spec
-    returns returns-2 returns-3 returns-4)
+    tie.close (tie.spec returns returns-2 returns-3 returns-4)

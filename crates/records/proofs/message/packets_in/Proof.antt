@@ -26,8 +26,6 @@ returns-7 c = rw (c .enum-told4 .given .1)
 
 pub packets-in-spec : {M : Type 1} → statement M
 packets-in-spec =
-    tie.close
-    (tie.spec
-    (λ c. search needs) (λ c. search needs) (λ c. search needs) (λ c. search needs)
-    (λ c. search needs) (λ c. search needs) (λ c. search needs) returns returns-2 returns-3
-    returns-4 returns-5 returns-6 returns-7)
+    tie.close (tie.spec (λ c. search needs) (λ c. search needs) (λ c. search needs)
+    (λ c. search needs) (λ c. search needs) (λ c. search needs) (λ c. search needs) returns
+    returns-2 returns-3 returns-4 returns-5 returns-6 returns-7)

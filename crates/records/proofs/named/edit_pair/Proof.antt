@@ -5,8 +5,7 @@ use Rattle.records.proofs.named.edit_pair.Tie as tie
 
 pub edit-pair-spec : {M : Type 1} → statement M
 edit-pair-spec =
-    tie.close
-    (tie.spec
-    (λ c. search needs) (λ c κs. search needs) (λ c. search needs) (λ c κs. search needs)
+    tie.close (tie.spec (λ c. search needs) (λ c κs. search needs) (λ c. search needs)
+    (λ c κs. search needs)
     (λ c. rw (c .before .enum-told .given .1) (c .set-device-family .ensures))
     (λ c. rw (c .before .enum-told2 .given .1) (c .set-device-family-model-number .ensures)))

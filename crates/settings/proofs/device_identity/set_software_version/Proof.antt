@@ -13,7 +13,5 @@ use Rattle.settings.proofs.device_identity.set_software_version.Tie as 
 pub set-software-version-spec : {M : Type 1} → statement M
 unfolding facts fits putIns fitFrom putFrom
 set-software-version-spec =
-    tie.close
-    (tie.spec
-    (λ c. search needs) (λ c κs. search needs) (λ c. search needs)
+    tie.close (tie.spec (λ c. search needs) (λ c κs. search needs) (λ c. search needs)
     (λ c. said-as (set-slots K.DeviceIdentity _ _ refl _ _ _ refl refl) (c .before .before .set-slots .ensures)))

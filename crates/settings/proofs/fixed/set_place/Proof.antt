@@ -8,10 +8,8 @@ use Rattle.settings.proofs.fixed.set_place.Tie as tie
 
 pub set-place-spec : {M : Type 1} → statement M
 set-place-spec =
-    tie.close
-    (tie.spec
-    (λ c κs. search needs) (λ c. search needs) (λ c. search needs) (λ c κs. search needs)
-    (λ c. search needs)
+    tie.close (tie.spec (λ c κs. search needs) (λ c. search needs) (λ c. search needs)
+    (λ c κs. search needs) (λ c. search needs)
     (λ c. said (place-large _ _ _ _ _ _ (sym (c .before .before .before .before .find-target .ensures) ∙ c .before .before .enum-told .given .1) (sym (c .before .too-large .ensures) ∙ c .if1 .taken)))
     (λ c κs. search needs) (λ c. search needs)
     (λ c. said (place-refused _ _ _ _ _ _ (sym (c .before .before .before .find-target .ensures) ∙ c .before .refusal .given .1)))

@@ -7,7 +7,6 @@ use Rattle.settings.proofs.named.set_pair.Tie as tie
 
 pub set-pair-spec : {M : Type 1} → statement M
 set-pair-spec =
-    tie.close
-    (tie.spec
-    (λ c κs. search needs) (λ c. search needs) (λ c κs. search needs) (λ c. search needs)
+    tie.close (tie.spec (λ c κs. search needs) (λ c. search needs) (λ c κs. search needs)
+    (λ c. search needs)
     (λ c. said-as (pair-put (c .before .before .before .before .before .before .before .args .pair) _ _ (c .before .before .before .before .before .pair-at .ensures)) (c .before .before .set-slots .ensures)))

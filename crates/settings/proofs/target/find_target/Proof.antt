@@ -17,7 +17,6 @@ returns-4 c = rw (← c .before .before .before .before .walk .ensures, c .befor
 
 pub find-target-spec : {M : Type 1} → statement M
 find-target-spec =
-    tie.close
-    (tie.spec
-    (λ c κs. search needs) (λ c. search needs) (λ c. search needs) (λ c. search needs)
-    (λ c. search needs) (λ c κs. search needs) returns returns-2 returns-3 returns-4)
+    tie.close (tie.spec (λ c κs. search needs) (λ c. search needs) (λ c. search needs)
+    (λ c. search needs) (λ c. search needs) (λ c κs. search needs) returns returns-2 returns-3
+    returns-4)

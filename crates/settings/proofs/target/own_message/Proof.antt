@@ -11,9 +11,7 @@ use Rattle.settings.proofs.target.own_message.Tie as tie
 pub own-message-spec : {M : Type 1} → statement M
 unfolding ownIn
 own-message-spec =
-    tie.close
-    (tie.spec
-    (λ c κs. search needs) (λ c κs. search needs)
+    tie.close (tie.spec (λ c κs. search needs) (λ c κs. search needs)
     (λ c. here _ (ne-differ _ _ (λ e. c .if1 .taken (c .before .before .row-of .ensures .status ∙ ap (λ (k : Kind). layout k .status) (c .before .before .before .kind-in .ensures) ∙ e))) refl)
     (λ c κs. search needs)
     (λ c. past _ (eq-differ _ _ (sym (c .before .before .before .row-of .ensures .status ∙ ap (λ (k : Kind). layout k .status) (c .before .before .before .before .kind-in .ensures)) ∙ c .before .if1 .left)) (rw (c .packets-in .ensures))))

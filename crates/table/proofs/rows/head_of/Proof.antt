@@ -7,9 +7,7 @@ use Rattle.table.proofs.rows.head_of.Tie as tie
 
 pub head-of-spec : {M : Type 1} → statement M
 head-of-spec =
-    tie.close
-    (tie.spec
-    (λ c κs. search needs)
+    tie.close (tie.spec (λ c κs. search needs)
     (λ c. let s = row-small (c .before .before .args .kind) .status in omega (arith, s, c .before .row-of .ensures .status))
     (λ c. let s = row-small (c .before .before .args .kind) .status in omega (arith, s, c .before .row-of .ensures .status))
     (λ c. search needs))

@@ -21,6 +21,5 @@ returns-3 c =
 
 pub big-endian-spec : {M : Type 1} → statement M
 big-endian-spec =
-    tie.close
-    (tie.spec
-    returns (λ c. search needs) returns-2 (λ c κs. search needs) (λ c κs. search needs) returns-3)
+    tie.close (tie.spec returns (λ c. search needs) returns-2 (λ c κs. search needs)
+    (λ c κs. search needs) returns-3)

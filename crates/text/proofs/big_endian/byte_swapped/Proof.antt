@@ -9,7 +9,5 @@ returns c = swapped-word _ (search needs)
 
 pub byte-swapped-spec : {M : Type 1} → statement M
 byte-swapped-spec =
-    tie.close
-    (tie.spec
-    (λ c. search needs) (λ c. search needs) (λ c. search needs) (λ c. search needs)
-    (λ c. search needs) (λ c. search needs) returns)
+    tie.close (tie.spec (λ c. search needs) (λ c. search needs) (λ c. search needs)
+    (λ c. search needs) (λ c. search needs) (λ c. search needs) returns)

@@ -13,6 +13,5 @@ returns-2 c = next-byte _ _ (omega arith)
 
 pub next-place-spec : {M : Type 1} → statement M
 next-place-spec =
-    tie.close
-    (tie.spec
-    (λ c. search needs) (λ c. search needs) returns (λ c. search needs) returns-2)
+    tie.close (tie.spec (λ c. search needs) (λ c. search needs) returns (λ c. search needs)
+    returns-2)

@@ -8,7 +8,5 @@ use Rattle.text.proofs.by_byte.octet_of.Tie as tie
 pub octet-of-spec : {M : Type 1} → statement M
 unfolding octetOf
 octet-of-spec =
-    tie.close
-    (tie.spec
-    (λ c. search needs) (λ c. search needs) (λ c. search needs) (λ c. search needs)
-    (λ c. search needs) (λ c. refl))
+    tie.close (tie.spec (λ c. search needs) (λ c. search needs) (λ c. search needs)
+    (λ c. search needs) (λ c. search needs) (λ c. refl))

@@ -61,8 +61,6 @@ returns-4 c = c .end-at3 .ensures ∙ sym (c .before .before .before .loop .inv 
 
 pub step-spec : {M : Type 1} → statement M
 step-spec =
-    tie.close
-    (tie.spec
-    Inv-loop μ-loop (λ c κs. search needs) returns (λ c. search needs) (λ c κs. search needs)
-    returns-2 loop-holds (λ c κs. search needs) (λ c. search needs) next-place-requires returns-3
-    loop-less loop-again (λ c κs. search needs) returns-4)
+    tie.close (tie.spec Inv-loop μ-loop (λ c κs. search needs) returns (λ c. search needs)
+    (λ c κs. search needs) returns-2 loop-holds (λ c κs. search needs) (λ c. search needs)
+    next-place-requires returns-3 loop-less loop-again (λ c κs. search needs) returns-4)

@@ -28,8 +28,6 @@ returns-4 c = let a = c .before .before .before .before .before .before .args in
 
 pub text-byte-spec : {M : Type 1} → statement M
 text-byte-spec =
-    tie.close
-    (tie.spec
-    returns returns-2 (λ c. search needs) returns-3 (λ c. search needs) (λ c. search needs)
+    tie.close (tie.spec returns returns-2 (λ c. search needs) returns-3 (λ c. search needs)
     (λ c. search needs) (λ c. search needs) (λ c. search needs) (λ c. search needs)
-    (λ c κs. search needs) returns-4)
+    (λ c. search needs) (λ c κs. search needs) returns-4)

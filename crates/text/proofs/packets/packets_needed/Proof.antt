@@ -19,6 +19,4 @@ returns-3 c = needed-last _ _ (λ e. omega arith) (c .if2 .left)
 
 pub packets-needed-spec : {M : Type 1} → statement M
 packets-needed-spec =
-    tie.close
-    (tie.spec
-    returns returns-2 (λ c. search needs) (λ c. search needs) add-t6 returns-3)
+    tie.close (tie.spec returns returns-2 (λ c. search needs) (λ c. search needs) add-t6 returns-3)

@@ -37,9 +37,7 @@ returns-5 c = past _ (lt-leb _ _ (c .before .before .if1 .left)) (rw (sym (c .be
 
 pub ascii-packet-spec : {M : Type 1} → statement M
 ascii-packet-spec =
-    tie.close
-    (tie.spec
-    returns (λ c. search needs) (λ c κs. search needs) (λ c. search needs) (λ c. search needs)
+    tie.close (tie.spec returns (λ c. search needs) (λ c κs. search needs) (λ c. search needs)
+    (λ c. search needs) (λ c κs. search needs) (λ c. search needs) (λ c. search needs)
     (λ c κs. search needs) (λ c. search needs) (λ c. search needs) (λ c κs. search needs)
-    (λ c. search needs) (λ c. search needs) (λ c κs. search needs) returns-2 returns-3 returns-4
-    returns-5)
+    returns-2 returns-3 returns-4 returns-5)

@@ -8,7 +8,5 @@ use Rattle.text_check.proofs.ascii.ascii_text.Tie as tie
 pub ascii-text-spec : {M : Type 1} → statement M
 unfolding asciiText
 ascii-text-spec =
-    tie.close
-    (tie.spec
-    (λ c. search needs) (λ c. search needs) (λ c κs. search needs) (λ c κs. search needs)
-    (λ c. c .ascii-word .ensures ∙ rw (c .before .text-mask .ensures)))
+    tie.close (tie.spec (λ c. search needs) (λ c. search needs) (λ c κs. search needs)
+    (λ c κs. search needs) (λ c. c .ascii-word .ensures ∙ rw (c .before .text-mask .ensures)))

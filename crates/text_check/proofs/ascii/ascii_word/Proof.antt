@@ -9,9 +9,7 @@ use Rattle.text_check.proofs.ascii.ascii_word.Tie as tie
 pub ascii-word-spec : {M : Type 1} → statement M
 unfolding asciiWord octetOf
 ascii-word-spec =
-    tie.close
-    (tie.spec
-    (λ c. rw (le-ltb _ _ (c .if1 .taken)))
+    tie.close (tie.spec (λ c. rw (le-ltb _ _ (c .if1 .taken)))
     (λ c. rw (lt-ltb _ _ (c .before .if1 .left), le-ltb _ _ (c .if2 .taken)))
     (λ c. rw (lt-ltb _ _ (c .before .before .if1 .left), lt-ltb _ _ (c .before .if2 .left), le-ltb _ _ (c .if3 .taken)))
     (λ c. rw (lt-ltb _ _ (c .before .before .if1 .left), lt-ltb _ _ (c .before .if2 .left), lt-ltb _ _ (c .if3 .left), div-one)))

@@ -43,9 +43,8 @@ returns-3 c = c .verdict-at-end .ensures ∙ to-check-finish _ _ _ (c .before .b
 
 pub check-text-spec : {M : Type 1} → statement M
 check-text-spec =
-    tie.close
-    (tie.spec
-    Inv-loop μ-loop returns (λ c κs. search needs) loop-holds (λ c κs. search needs)
-    (λ c κs. search needs) (λ c. search needs) returns-2 (λ c. search needs) (λ c. search needs)
-    (λ c. search needs) (λ c. search needs) (λ c. search needs) loop-again (λ c. search needs)
-    loop-again-2 (λ c κs. search needs) returns-3)
+    tie.close (tie.spec Inv-loop μ-loop returns (λ c κs. search needs) loop-holds
+    (λ c κs. search needs) (λ c κs. search needs) (λ c. search needs) returns-2
+    (λ c. search needs) (λ c. search needs) (λ c. search needs) (λ c. search needs)
+    (λ c. search needs) loop-again (λ c. search needs) loop-again-2 (λ c κs. search needs)
+    returns-3)

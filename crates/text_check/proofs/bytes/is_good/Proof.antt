@@ -21,6 +21,4 @@ returns-2 c = c .is-good-from .ensures ∙ c .before .before .skip-whole .ensure
 
 pub is-good-spec : {M : Type 1} → statement M
 is-good-spec =
-    tie.close
-    (tie.spec
-    (λ c κs. search needs) returns is-good-from-requires returns-2)
+    tie.close (tie.spec (λ c κs. search needs) returns is-good-from-requires returns-2)

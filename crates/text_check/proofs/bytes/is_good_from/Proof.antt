@@ -50,8 +50,6 @@ returns-2 c = bytes-finish _ _ _ _ (c .loop-test .left) (c .before .loop .inv .1
 
 pub is-good-from-spec : {M : Type 1} → statement M
 is-good-from-spec =
-    tie.close
-    (tie.spec
-    Inv-loop μ-loop loop-holds (λ c. search needs) step-keeping-zeros-requires returns
-    (λ c. search needs) (λ c κs. search needs) loop-less loop-again (λ c. search needs)
+    tie.close (tie.spec Inv-loop μ-loop loop-holds (λ c. search needs) step-keeping-zeros-requires
+    returns (λ c. search needs) (λ c κs. search needs) loop-less loop-again (λ c. search needs)
     loop-again-2 returns-2)

@@ -32,7 +32,6 @@ returns-3 c = c .before .loop .inv
 
 pub skip-ascii-spec : {M : Type 1} → statement M
 skip-ascii-spec =
-    tie.close
-    (tie.spec
-    Inv-loop μ-loop returns (λ c. search needs) loop-holds (λ c κs. search needs)
-    (λ c κs. search needs) (λ c. search needs) (λ c. search needs) loop-again returns-2 returns-3)
+    tie.close (tie.spec Inv-loop μ-loop returns (λ c. search needs) loop-holds
+    (λ c κs. search needs) (λ c κs. search needs) (λ c. search needs) (λ c. search needs)
+    loop-again returns-2 returns-3)

@@ -37,7 +37,5 @@ returns-3 c = c .before .loop .inv
 
 pub skip-by-words-spec : {M : Type 1} → statement M
 skip-by-words-spec =
-    tie.close
-    (tie.spec
-    Inv-loop μ-loop returns (λ c. search needs) loop-holds (λ c κs. search needs)
-    (λ c κs. search needs) returns-2 add-i loop-less loop-again returns-3)
+    tie.close (tie.spec Inv-loop μ-loop returns (λ c. search needs) loop-holds
+    (λ c κs. search needs) (λ c κs. search needs) returns-2 add-i loop-less loop-again returns-3)

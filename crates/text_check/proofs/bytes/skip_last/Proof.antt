@@ -16,8 +16,6 @@ returns-5 c = let n = length (c .before .before .before .before .before .before 
 
 pub skip-last-spec : {M : Type 1} → statement M
 skip-last-spec =
-    tie.close
-    (tie.spec
-    (λ c. search needs) (λ c. search needs) (λ c. search needs) (λ c. search needs)
-    (λ c κs. search needs) (λ c κs. search needs) returns-4 (λ c. search needs)
-    (λ c κs. search needs) returns-5 (λ c. search needs))
+    tie.close (tie.spec (λ c. search needs) (λ c. search needs) (λ c. search needs)
+    (λ c. search needs) (λ c κs. search needs) (λ c κs. search needs) returns-4
+    (λ c. search needs) (λ c κs. search needs) returns-5 (λ c. search needs))

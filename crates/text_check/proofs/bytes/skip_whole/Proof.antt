@@ -18,6 +18,5 @@ returns c = skip-more (c .before .before .before .skip-ascii .ensures) (skip-mor
 
 pub skip-whole-spec : {M : Type 1} → statement M
 skip-whole-spec =
-    tie.close
-    (tie.spec
-    (λ c κs. search needs) skip-runs-requires skip-by-words-requires skip-last-requires returns)
+    tie.close (tie.spec (λ c κs. search needs) skip-runs-requires skip-by-words-requires
+    skip-last-requires returns)

@@ -8,9 +8,7 @@ use Rattle.text_check.proofs.bytes.whole_characters.Tie as tie
 pub whole-characters-spec : {M : Type 1} → statement M
 unfolding wholeCharacters
 whole-characters-spec =
-    tie.close
-    (tie.spec
-    (λ c κs. search needs) (λ c. rw (told (c .before .ascii-word .ensures) (c .if1 .taken)))
-    (λ c κs. search needs)
+    tie.close (tie.spec (λ c κs. search needs)
+    (λ c. rw (told (c .before .ascii-word .ensures) (c .if1 .taken))) (λ c κs. search needs)
     (λ c. rw (told (c .before .before .before .ascii-word .ensures) (c .before .before .if1 .left), told (c .before .first-three .ensures) (c .if2 .taken)))
     (λ c. rw (told (c .before .before .before .ascii-word .ensures) (c .before .before .if1 .left), told (c .before .first-three .ensures) (c .if2 .left))))

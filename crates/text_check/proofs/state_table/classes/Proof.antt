@@ -12,9 +12,7 @@ returns-16 c = sym (List·getD-eq-default classList 0x55555555555cbbba {n = c .b
 
 pub classes-spec : {M : Type 1} → statement M
 classes-spec =
-    tie.close
-    (tie.spec
+    tie.close (tie.spec (λ c. search needs) (λ c. search needs) (λ c. search needs)
     (λ c. search needs) (λ c. search needs) (λ c. search needs) (λ c. search needs)
     (λ c. search needs) (λ c. search needs) (λ c. search needs) (λ c. search needs)
-    (λ c. search needs) (λ c. search needs) (λ c. search needs) (λ c. search needs)
-    (λ c. search needs) (λ c. search needs) (λ c. search needs) returns-16)
+    (λ c. search needs) (λ c. search needs) (λ c. search needs) (λ c. search needs) returns-16)

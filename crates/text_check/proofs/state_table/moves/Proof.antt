@@ -13,9 +13,7 @@ returns-16 c =
 
 pub moves-spec : {M : Type 1} → statement M
 moves-spec =
-    tie.close
-    (tie.spec
+    tie.close (tie.spec (λ c. search needs) (λ c. search needs) (λ c. search needs)
     (λ c. search needs) (λ c. search needs) (λ c. search needs) (λ c. search needs)
     (λ c. search needs) (λ c. search needs) (λ c. search needs) (λ c. search needs)
-    (λ c. search needs) (λ c. search needs) (λ c. search needs) (λ c. search needs)
-    (λ c. search needs) (λ c. search needs) (λ c. search needs) returns-16)
+    (λ c. search needs) (λ c. search needs) (λ c. search needs) (λ c. search needs) returns-16)

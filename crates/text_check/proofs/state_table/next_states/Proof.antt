@@ -7,7 +7,6 @@ use Rattle.text_check.proofs.state_table.next_states.Tie as tie
 pub next-states-spec : {M : Type 1} → statement M
 unfolding nextStates
 next-states-spec =
-    tie.close
-    (tie.spec
-    (λ c κs. search needs) (λ c. search needs) (λ c. search needs) (λ c. search needs)
-    (λ c κs. search needs) (λ c. rw (c .moves .ensures, c .before .classes .ensures)))
+    tie.close (tie.spec (λ c κs. search needs) (λ c. search needs) (λ c. search needs)
+    (λ c. search needs) (λ c κs. search needs)
+    (λ c. rw (c .moves .ensures, c .before .classes .ensures)))

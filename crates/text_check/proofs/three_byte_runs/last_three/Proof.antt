@@ -10,9 +10,8 @@ use Rattle.text_check.proofs.three_byte_runs.last_three.Tie as tie
 pub last-three-spec : {M : Type 1} → statement M
 unfolding lastThree octetOf
 last-three-spec =
-    tie.close
-    (tie.spec
-    (λ c κs. search needs) (λ c κs. search needs) (λ c κs. search needs) (λ c κs. search needs)
+    tie.close (tie.spec (λ c κs. search needs) (λ c κs. search needs) (λ c κs. search needs)
+    (λ c κs. search needs)
     (λ c. rw (div-one, told (c .before .before .before .before .before .before .is-e0-to-ef .ensures) (c .before .before .before .before .before .if1 .taken), told (c .before .before .before .before .is-tail .ensures) (c .before .before .before .if2 .taken), told (c .before .before .is-tail2 .ensures) (c .before .if3 .taken)) (c .not-e0-or-ed .ensures))
     (λ c. rw (div-one, told (c .before .before .before .before .before .is-e0-to-ef .ensures) (c .before .before .before .before .if1 .taken), told (c .before .before .before .is-tail .ensures) (c .before .before .if2 .taken), told (c .before .is-tail2 .ensures) (c .if3 .left)) (c .if3 .left))
     (λ c. rw (div-one, told (c .before .before .before .is-e0-to-ef .ensures) (c .before .before .if1 .taken), told (c .before .is-tail .ensures) (c .if2 .left)) (c .if2 .left))

@@ -11,6 +11,4 @@ returns-2 c = rw (eq-eqb _ _ (c .if1 .left))
 
 pub not-e0-or-ed-spec : {M : Type 1} → statement M
 not-e0-or-ed-spec =
-    tie.close
-    (tie.spec
-    returns returns-2)
+    tie.close (tie.spec returns returns-2)

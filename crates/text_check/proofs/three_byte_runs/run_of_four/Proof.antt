@@ -9,9 +9,7 @@ use Rattle.text_check.proofs.three_byte_runs.run_of_four.Tie as tie
 pub run-of-four-spec : {M : Type 1} → statement M
 unfolding runOfFour
 run-of-four-spec =
-    tie.close
-    (tie.spec
-    (λ c κs. search needs) (λ c κs. search needs) (λ c κs. search needs)
+    tie.close (tie.spec (λ c κs. search needs) (λ c κs. search needs) (λ c κs. search needs)
     (λ c. rw (eq-eqb (c .before .before .args .s) 0 (omega arith)) (c .run-none-due .ensures))
     (λ c. rw (ne-eqb (c .before .before .args .s) 0 (λ e. omega arith), eq-eqb (c .before .before .args .s) 6 (omega arith)) (c .run-one-due .ensures))
     (λ c. rw (ne-eqb (c .before .before .args .s) 0 (λ e. omega arith), ne-eqb (c .before .before .args .s) 6 (λ e. omega arith), eq-eqb (c .before .before .args .s) 12 (omega arith)) (c .run-two-due .ensures))

@@ -10,11 +10,9 @@ use Rattle.text_check.proofs.three_byte_runs.run_of_twelve.Tie as tie
 pub run-of-twelve-spec : {M : Type 1} → statement M
 unfolding runOfTwelve
 run-of-twelve-spec =
-    tie.close
-    (tie.spec
+    tie.close (tie.spec (λ c κs. search needs) (λ c κs. search needs) (λ c κs. search needs)
     (λ c κs. search needs) (λ c κs. search needs) (λ c κs. search needs) (λ c κs. search needs)
-    (λ c κs. search needs) (λ c κs. search needs) (λ c κs. search needs) (λ c κs. search needs)
-    (λ c κs. search needs)
+    (λ c κs. search needs) (λ c κs. search needs)
     (λ c. rw (eq-eqb (c .before .before .before .before .before .before .args .s) 0 (omega arith), told (c .before .before .before .before .run-none-due .ensures) (c .before .before .before .if1 .taken), told (c .before .before .run-two-due .ensures) (c .before .if2 .taken)) (c .run-one-due .ensures))
     (λ c. rw (eq-eqb (c .before .before .before .before .before .args .s) 0 (omega arith), told (c .before .before .before .run-none-due .ensures) (c .before .before .if1 .taken), told (c .before .run-two-due .ensures) (c .if2 .left)) (c .if2 .left))
     (λ c. rw (eq-eqb (c .before .before .before .args .s) 0 (omega arith), told (c .before .run-none-due .ensures) (c .if1 .left)) (c .if1 .left))

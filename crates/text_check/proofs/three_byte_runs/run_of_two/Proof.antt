@@ -10,10 +10,8 @@ use Rattle.text_check.proofs.three_byte_runs.run_of_two.Tie as tie
 pub run-of-two-spec : {M : Type 1} → statement M
 unfolding runOfTwo
 run-of-two-spec =
-    tie.close
-    (tie.spec
-    (λ c κs. search needs) (λ c κs. search needs) (λ c κs. search needs) (λ c κs. search needs)
-    (λ c κs. search needs) (λ c κs. search needs)
+    tie.close (tie.spec (λ c κs. search needs) (λ c κs. search needs) (λ c κs. search needs)
+    (λ c κs. search needs) (λ c κs. search needs) (λ c κs. search needs)
     (λ c. rw (eq-eqb (c .before .before .before .before .args .s) 0 (omega arith), told (c .before .before .simple-first .ensures) (c .before .if1 .taken)) (c .is-tail .ensures))
     (λ c. rw (eq-eqb (c .before .before .before .args .s) 0 (omega arith), told (c .before .simple-first .ensures) (c .if1 .left)) (c .if1 .left))
     (λ c. rw (ne-eqb (c .before .before .before .before .args .s) 0 (λ e. omega arith), eq-eqb (c .before .before .before .before .args .s) 6 (omega arith), told (c .before .before .is-tail2 .ensures) (c .before .if2 .taken)) (c .simple-first2 .ensures))

@@ -12,6 +12,4 @@ returns-2 c = rw (told (c .before .is-e0-to-ef .ensures) (c .if1 .left)) (c .if1
 
 pub simple-first-spec : {M : Type 1} → statement M
 simple-first-spec =
-    tie.close
-    (tie.spec
-    (λ c κs. search needs) (λ c κs. search needs) returns returns-2)
+    tie.close (tie.spec (λ c κs. search needs) (λ c κs. search needs) returns returns-2)

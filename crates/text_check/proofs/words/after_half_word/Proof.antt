@@ -12,8 +12,7 @@ after-two-bytes-requires c κs = c .before .pre
 pub after-half-word-spec : {M : Type 1} → statement M
 unfolding octetOf
 after-half-word-spec =
-    tie.close
-    (tie.spec
+    tie.close (tie.spec
     (λ c. let h = c .if1 .taken in (zeros-stay _ _ _ (c .before .pre) (omega arith) (omega arith), c .before .pre))
     (λ c. search needs) (λ c. search needs) after-two-bytes-requires
     (λ c. c .after-two-bytes .ensures))

@@ -20,7 +20,6 @@ returns-2 c = (rw (c .after-three-words .ensures .0, c .before .after-word-by-ha
 
 pub after-packet-spec : {M : Type 1} → statement M
 after-packet-spec =
-    tie.close
-    (tie.spec
-    (λ c κs. search needs) (λ c κs. search needs) (λ c κs. search needs) (λ c κs. search needs)
-    returns after-word-by-halves-requires after-three-words-requires returns-2)
+    tie.close (tie.spec (λ c κs. search needs) (λ c κs. search needs) (λ c κs. search needs)
+    (λ c κs. search needs) returns after-word-by-halves-requires after-three-words-requires
+    returns-2)

@@ -23,6 +23,5 @@ returns-2 c = (rw (c .after-word3 .ensures .0, c .before .after-word2 .ensures .
 
 pub after-three-words-spec : {M : Type 1} → statement M
 after-three-words-spec =
-    tie.close
-    (tie.spec
-    (λ c κs. search needs) returns after-word-requires after-word-requires-2 after-word-requires-3 returns-2)
+    tie.close (tie.spec (λ c κs. search needs) returns after-word-requires after-word-requires-2
+    after-word-requires-3 returns-2)

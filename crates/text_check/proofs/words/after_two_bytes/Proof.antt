@@ -22,6 +22,5 @@ returns-2 c = as-state (sym (c .table-step2 .ensures .0 ∙ rw (c .before .table
 
 pub after-two-bytes-spec : {M : Type 1} → statement M
 after-two-bytes-spec =
-    tie.close
-    (tie.spec
-    (λ c κs. search needs) add-result returns table-step-requires (λ c κs. search needs) returns-2)
+    tie.close (tie.spec (λ c κs. search needs) add-result returns table-step-requires
+    (λ c κs. search needs) returns-2)

@@ -24,7 +24,5 @@ returns-3 c = c .after-word-by-halves .ensures
 
 pub after-word-spec : {M : Type 1} → statement M
 after-word-spec =
-    tie.close
-    (tie.spec
-    (λ c κs. search needs) add-result returns (λ c κs. search needs) returns-2 after-word-by-halves-requires
-    returns-3)
+    tie.close (tie.spec (λ c κs. search needs) add-result returns (λ c κs. search needs) returns-2
+    after-word-by-halves-requires returns-3)

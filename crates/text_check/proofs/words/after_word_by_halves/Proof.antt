@@ -17,9 +17,7 @@ after-two-bytes-requires c κs = c .before .after-half-word .ensures .1
 pub after-word-by-halves-spec : {M : Type 1} → statement M
 unfolding octetOf
 after-word-by-halves-spec =
-    tie.close
-    (tie.spec
-    after-half-word-requires
+    tie.close (tie.spec after-half-word-requires
     (λ c. let h = c .if1 .taken in (rw (sym (c .before .after-half-word .ensures .0)) (zeros-stay _ _ _ (c .before .after-half-word .ensures .1) (omega arith) (omega arith)), c .before .after-half-word .ensures .1))
     (λ c. search needs) (λ c. search needs) after-two-bytes-requires
     (λ c. (rw (c .after-two-bytes .ensures .0, c .before .before .after-half-word .ensures .0, div-one), c .after-two-bytes .ensures .1)))

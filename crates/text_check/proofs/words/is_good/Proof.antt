@@ -42,11 +42,9 @@ returns-2 c = packets-finish _ _ _ _ _ (c .loop-test .left) (c .before .loop .in
 
 pub is-good-spec : {M : Type 1} → statement M
 is-good-spec =
-    tie.close
-    (tie.spec
-    Inv-loop μ-loop (λ c κs. search needs) (λ c κs. search needs) (λ c κs. search needs)
-    (λ c κs. search needs) loop-holds (λ c. search needs) (λ c. search needs) (λ c. search needs)
+    tie.close (tie.spec Inv-loop μ-loop (λ c κs. search needs) (λ c κs. search needs)
+    (λ c κs. search needs) (λ c κs. search needs) loop-holds (λ c. search needs)
     (λ c. search needs) (λ c. search needs) (λ c. search needs) (λ c. search needs)
     (λ c. search needs) (λ c. search needs) (λ c. search needs) (λ c. search needs)
-    (λ c. search needs) after-packet-requires returns (λ c. search needs) (λ c. search needs)
-    loop-again returns-2)
+    (λ c. search needs) (λ c. search needs) (λ c. search needs) after-packet-requires returns
+    (λ c. search needs) (λ c. search needs) loop-again returns-2)

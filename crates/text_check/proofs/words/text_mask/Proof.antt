@@ -35,6 +35,4 @@ returns-5 c =
 
 pub text-mask-spec : {M : Type 1} → statement M
 text-mask-spec =
-    tie.close
-    (tie.spec
-    returns (λ c. search needs) returns-2 returns-3 returns-4 returns-5)
+    tie.close (tie.spec returns (λ c. search needs) returns-2 returns-3 returns-4 returns-5)

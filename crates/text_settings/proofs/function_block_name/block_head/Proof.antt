@@ -11,9 +11,7 @@ use Rattle.text_settings.proofs.function_block_name.block_head.Tie as t
 pub block-head-spec : {M : Type 1} → statement M
 unfolding layout blockHead
 block-head-spec =
-    tie.close
-    (tie.spec
-    (λ c κs. search needs)
+    tie.close (tie.spec (λ c κs. search needs)
     (λ c. c .before .head-of .ensures ∙ no-number (c .before .before .before .args .words .now) (c .if1 .taken))
     (λ c. search needs) (λ c. search needs)
     (λ c. omega (arith, c .before .before .head-of .ensures))

@@ -12,10 +12,8 @@ use Rattle.text_settings.proofs.function_block_name.set_function_block.
 pub set-function-block-spec : {M : Type 1} → statement M
 unfolding facts
 set-function-block-spec =
-    tie.close
-    (tie.spec
-    (λ c κs. search needs) (λ c κs. search needs) (λ c. search needs) (λ c. search needs)
-    (λ c κs. search needs) (λ c. search needs)
+    tie.close (tie.spec (λ c κs. search needs) (λ c κs. search needs) (λ c. search needs)
+    (λ c. search needs) (λ c κs. search needs) (λ c. search needs)
     (λ c. said-as (set-each K.FunctionBlockName _ 0 _ refl refl refl refl) (said (each-large K.FunctionBlockName 0 _ _ (c .before .before .before .before .before .before .before .place-of .ensures) (sym (c .before .before .before .before .before .find-text-target .ensures) ∙ c .before .before .before .packets .given .1) (sym (c .before .too-large .ensures) ∙ c .if1 .taken))))
     (λ c κs. search needs) (λ c. search needs)
     (λ c. said-as (set-each K.FunctionBlockName _ 0 _ refl refl refl refl) (said (each-refused K.FunctionBlockName 0 _ _ (sym (c .before .before .before .find-text-target .ensures) ∙ c .before .refusal .given .1))))

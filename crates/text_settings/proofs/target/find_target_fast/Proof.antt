@@ -12,6 +12,4 @@ returns c =
 
 pub find-target-fast-spec : {M : Type 1} → statement M
 find-target-fast-spec =
-    tie.close
-    (tie.spec
-    (λ c κs. search needs) returns (λ c κs. search needs) (λ c. search needs))
+    tie.close (tie.spec (λ c κs. search needs) returns (λ c κs. search needs) (λ c. search needs))

@@ -23,7 +23,5 @@ returns-2 c = rw (c .before .before .row-of .ensures .status) at (c .find-target
 
 pub find-text-target-spec : {M : Type 1} → statement M
 find-text-target-spec =
-    tie.close
-    (tie.spec
-    (λ c κs. search needs) (λ c. search needs) (λ c κs. search needs) (λ c κs. search needs)
-    returns (λ c κs. search needs) returns-2)
+    tie.close (tie.spec (λ c κs. search needs) (λ c. search needs) (λ c κs. search needs)
+    (λ c κs. search needs) returns (λ c κs. search needs) returns-2)

@@ -21,6 +21,4 @@ returns-3 c = past _ (le-ltb _ _ (c .before .before .before .if1 .left)) (past _
 
 pub is-single-ascii-packet-spec : {M : Type 1} → statement M
 is-single-ascii-packet-spec =
-    tie.close
-    (tie.spec
-    returns (λ c. search needs) returns-2 (λ c κs. search needs) returns-3)
+    tie.close (tie.spec returns (λ c. search needs) returns-2 (λ c κs. search needs) returns-3)

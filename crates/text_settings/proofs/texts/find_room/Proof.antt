@@ -15,6 +15,4 @@ returns-3 c = let e = c .before .before .before .packets-needed .ensures in rw e
 
 pub find-room-spec : {M : Type 1} → statement M
 find-room-spec =
-    tie.close
-    (tie.spec
-    (λ c κs. search needs) returns returns-2 returns-3)
+    tie.close (tie.spec (λ c κs. search needs) returns returns-2 returns-3)

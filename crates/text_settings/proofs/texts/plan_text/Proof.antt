@@ -13,7 +13,5 @@ returns-2 c = c .find-room .ensures ∙ plan-good _ _ _ (sym (c .before .before 
 
 pub plan-text-spec : {M : Type 1} → statement M
 plan-text-spec =
-    tie.close
-    (tie.spec
-    (λ c κs. search needs) (λ c. search needs) (λ c. search needs) (λ c κs. search needs) returns
-    returns-2)
+    tie.close (tie.spec (λ c κs. search needs) (λ c. search needs) (λ c. search needs)
+    (λ c κs. search needs) returns returns-2)

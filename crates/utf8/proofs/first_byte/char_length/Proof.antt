@@ -11,8 +11,7 @@ returns-5 c =
 pub char-length-spec : {M : Type 1} → statement M
 unfolding lengthByOnes
 char-length-spec =
-    tie.close
-    (tie.spec
+    tie.close (tie.spec
     (λ c. length-law (c .before .args .b) 0 (c .before .fits .b .fits) (c .match .keys1))
     (λ c. length-law (c .before .args .b) 2 (c .before .fits .b .fits) (c .match .keys2))
     (λ c. length-law (c .before .args .b) 3 (c .before .fits .b .fits) (c .match .keys3))

@@ -28,7 +28,5 @@ returns-5 c =
 
 pub after-byte-spec : {M : Type 1} → statement M
 after-byte-spec =
-    tie.close
-    (tie.spec
-    (λ c. search needs) (λ c. search needs) (λ c κs. search needs) returns returns-2 returns-3
-    (λ c. search needs) returns-4 returns-5)
+    tie.close (tie.spec (λ c. search needs) (λ c. search needs) (λ c κs. search needs) returns
+    returns-2 returns-3 (λ c. search needs) returns-4 returns-5)

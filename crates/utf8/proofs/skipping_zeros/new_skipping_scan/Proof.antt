@@ -8,6 +8,4 @@ returns c = rw (c .new-scan .ensures)
 
 pub new-skipping-scan-spec : {M : Type 1} → statement M
 new-skipping-scan-spec =
-    tie.close
-    (tie.spec
-    (λ c κs. search needs) returns)
+    tie.close (tie.spec (λ c κs. search needs) returns)

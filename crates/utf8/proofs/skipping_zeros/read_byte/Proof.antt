@@ -8,7 +8,5 @@ use Rattle.utf8.proofs.skipping_zeros.read_byte.Tie as tie
 pub read-byte-spec : {M : Type 1} → statement M
 unfolding afterRead
 read-byte-spec =
-    tie.close
-    (tie.spec
-    (λ c. rw (c .if1 .taken)) (λ c κs. search needs) (λ c κs. search needs)
+    tie.close (tie.spec (λ c. rw (c .if1 .taken)) (λ c κs. search needs) (λ c κs. search needs)
     (λ c. rw (ne-eqb _ _ (c .before .before .before .if1 .left), c .before .after-byte .ensures, c .wrapping-add-usize .ensures)))

@@ -7,8 +7,6 @@ use Rattle.writing.proofs.write.put_record.Tie as tie
 
 pub put-record-spec : {M : Type 1} → statement M
 put-record-spec =
-    tie.close
-    (tie.spec
-    (λ c κs. search needs) (λ c κs. search needs) (λ c κs. search needs) (λ c κs. search needs)
-    (λ c κs. search needs) (λ c. search needs)
+    tie.close (tie.spec (λ c κs. search needs) (λ c κs. search needs) (λ c κs. search needs)
+    (λ c κs. search needs) (λ c κs. search needs) (λ c. search needs)
     (λ c. rw (c .before .before .before .before .before .before .before .clear .ensures) at (c .before .before .put-slots .ensures) ∙ put-told (c .before .before .before .before .before .before .before .before .before .before .before .before .args .message) _ (c .before .before .before .before .before .before .before .before .before .before .kind-in .ensures) (c .before .before .before .numbers-of .ensures) (c .before .before .before .before .before .before .before .before .head-of .ensures)))

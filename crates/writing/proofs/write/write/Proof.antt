@@ -9,9 +9,7 @@ use Rattle.writing.proofs.write.write.Tie as tie
 
 pub write-spec : {M : Type 1} → statement M
 write-spec =
-    tie.close
-    (tie.spec
-    (λ c κs. search needs) (λ c κs. search needs)
+    tie.close (tie.spec (λ c κs. search needs) (λ c κs. search needs)
     (λ c. said (write-text (c .before .before .before .before .before .args .message) _ (sym (text-told (c .before .before .before .before .before .args .message) (c .before .before .before .kind-in .ensures) (c .before .before .row-of .ensures)) ∙ lt-ltb 1 _ (c .if1 .taken))))
     (λ c κs. search needs) (λ c κs. search needs)
     (λ c. said (write-short (fixed-kind (c .before .before .before .before .before .before .before .before .before .args .message) (sym (text-told (c .before .before .before .before .before .before .before .before .before .args .message) (c .before .before .before .before .before .before .before .kind-in .ensures) (c .before .before .before .before .before .before .row-of .ensures)) ∙ le-ltb 1 _ (c .before .before .before .before .if1 .left))) _ (fits-told (c .before .before .before .before .before .before .before .before .before .args .message) (c .before .before .before .before .before .before .before .kind-in .ensures) (c .before .before .before .numbers-of .ensures) (c .before .before .numbers-in-range .ensures) (c .before .if2 .taken)) (c .if3 .taken)))

@@ -8,6 +8,4 @@ returns c = rw (c .then .ensures, c .before .set-id .ensures)
 
 pub set-id-spec : {M : Type 1} → statement M
 set-id-spec =
-    tie.close
-    (tie.spec
-    (λ c κs. search needs) (λ c κs. search needs) returns)
+    tie.close (tie.spec (λ c κs. search needs) (λ c κs. search needs) returns)

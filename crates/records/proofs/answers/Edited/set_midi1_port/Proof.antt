@@ -8,6 +8,4 @@ returns c = rw (c .then .ensures, c .before .set-midi1-port .ensures)
 
 pub set-midi1-port-spec : {M : Type 1} → statement M
 set-midi1-port-spec =
-    tie.close
-    (tie.spec
-    (λ c κs. search needs) (λ c κs. search needs) returns)
+    tie.close (tie.spec (λ c κs. search needs) (λ c κs. search needs) returns)

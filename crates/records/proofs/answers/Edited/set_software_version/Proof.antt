@@ -8,6 +8,4 @@ returns c = rw (c .then .ensures, c .before .set-software-version .ensures)
 
 pub set-software-version-spec : {M : Type 1} → statement M
 set-software-version-spec =
-    tie.close
-    (tie.spec
-    (λ c κs. search needs) (λ c κs. search needs) returns)
+    tie.close (tie.spec (λ c κs. search needs) (λ c κs. search needs) returns)

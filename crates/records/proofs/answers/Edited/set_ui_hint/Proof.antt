@@ -8,6 +8,4 @@ returns c = rw (c .then .ensures, c .before .set-ui-hint .ensures)
 
 pub set-ui-hint-spec : {M : Type 1} → statement M
 set-ui-hint-spec =
-    tie.close
-    (tie.spec
-    (λ c κs. search needs) (λ c κs. search needs) returns)
+    tie.close (tie.spec (λ c κs. search needs) (λ c κs. search needs) returns)

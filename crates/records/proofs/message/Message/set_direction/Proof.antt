@@ -1,19 +1,16 @@
 -- Setting `direction` on a record.
-use mathlib.Core.Path.{refl, _∙_}
+use mathlib.Core.Path.{_∙_}
 use borrow.Author.Needs.{needs}
 use Rattle.kinds.specs.declared.kind.Kind.the-variants as K
-use Rattle.kinds.proofs.Codes.{bit-flag, hint-back, port-back, direction-back}
-use Rattle.records.proofs.Settings.{table, made, small-direction}
-use Rattle.records.proofs.Others.{other}
+use Rattle.records.proofs.Settings.{made}
+use Rattle.records.proofs.Methods.{table, other, small-direction, refl, bit-flag, hint-back, port-back, direction-back}
 use Rattle.records.proofs.message.Message.set_direction.Statement.{statement}
 use Rattle.records.proofs.message.Message.set_direction.Tie as tie
 
 pub set-direction-spec : {M : Type 1} → statement M
 unfolding table
 set-direction-spec =
-    tie.close
-    (tie.spec
-    (λ c. search needs) (λ c κs. search needs)
-    (λ c. c .no-such-field .ensures ∙ other K.FunctionBlockInfo _ _ refl (c .before .match .keys2))
+    tie.close (tie.spec (λ c. search needs) (λ c κs. search needs)
+    (λ c. other _ K.FunctionBlockInfo refl (c .no-such-field .ensures) (c .before .match .keys2))
     (λ c κs. search needs) (λ c κs. search needs)
     (λ c. c .done .ensures ∙ rw (c .before .chosen .ensures, c .before .before .before .self .given .1) (made _ _ refl (small-direction (c .before .before .before .before .before .args .direction)) (simp (bit-flag, hint-back, port-back, direction-back)))))

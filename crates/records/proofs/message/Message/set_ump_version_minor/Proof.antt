@@ -1,19 +1,16 @@
 -- Setting `ump_version_minor` on a record.
-use mathlib.Core.Path.{refl, _∙_}
+use mathlib.Core.Path.{_∙_}
 use mathlib.Core.Logic.{⊎-elim}
 use borrow.Author.Needs.{needs}
-use Rattle.kinds.proofs.Codes.{bit-flag}
-use Rattle.records.proofs.Settings.{table, too-large, made, small, large}
-use Rattle.records.proofs.Others.{no-version}
+use Rattle.records.proofs.Settings.{too-large, made}
+use Rattle.records.proofs.Methods.{table, no-version, small, large, refl, bit-flag}
 use Rattle.records.proofs.message.Message.set_ump_version_minor.Statement.{statement}
 use Rattle.records.proofs.message.Message.set_ump_version_minor.Tie as tie
 
 pub set-ump-version-minor-spec : {M : Type 1} → statement M
 unfolding table
 set-ump-version-minor-spec =
-    tie.close
-    (tie.spec
-    (λ c. search needs) (λ c κs. search needs)
+    tie.close (tie.spec (λ c. search needs) (λ c κs. search needs)
     (λ c. c .too-large .ensures ∙ rw (c .before .before .before .self .given .1) (too-large _ _ refl (large _ _ _ (c .before .if1 .taken))))
     (λ c. search needs) (λ c. search needs) (λ c κs. search needs)
     (λ c. c .too-large2 .ensures ∙ rw (c .before .before .before .self2 .given .1) (too-large _ _ refl (large _ _ _ (c .before .if2 .taken))))
