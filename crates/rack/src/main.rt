@@ -21,52 +21,23 @@ fn mixed(kind: usize) -> Plan {
     }
 }
 
-// One packet.
-fn in_4(kind: usize, pool: &[u8], tally: &mut [u64]) {
-    let mut words = [0u32; 4];
-    let mut again = [0u32; 4];
-    run(mixed(kind), &mut words, &mut again, pool, tally);
-}
-
-// One packet and a tail of three words.
-fn in_7(kind: usize, pool: &[u8], tally: &mut [u64]) {
-    let mut words = [0u32; 7];
-    let mut again = [0u32; 7];
-    run(mixed(kind), &mut words, &mut again, pool, tally);
-}
-
-// Three packets and a tail of one word.
-fn in_13(kind: usize, pool: &[u8], tally: &mut [u64]) {
-    let mut words = [0u32; 13];
-    let mut again = [0u32; 13];
-    run(mixed(kind), &mut words, &mut again, pool, tally);
-}
-
-// Eight packets and a tail of two words.
-fn in_34(kind: usize, pool: &[u8], tally: &mut [u64]) {
-    let mut words = [0u32; 34];
-    let mut again = [0u32; 34];
-    run(mixed(kind), &mut words, &mut again, pool, tally);
-}
-
-// Sixty-five packets and a tail of three words.
-fn in_263(kind: usize, pool: &[u8], tally: &mut [u64]) {
+// A run in the first n words of a buffer, at most 263: sixty-five packets and a tail of three words.
+fn in_words(n: usize, plan: Plan, pool: &[u8], tally: &mut [u64]) {
     let mut words = [0u32; 263];
     let mut again = [0u32; 263];
-    run(mixed(kind), &mut words, &mut again, pool, tally);
+    if n <= 263 {
+        run(plan, &mut words[0..n], &mut again[0..n], pool, tally);
+    }
 }
 
-// A year of one rename a minute, on block name 5 in eight packets and a tail of three words.
-fn year(pool: &[u8], tally: &mut [u64]) {
-    let mut words = [0u32; 35];
-    let mut again = [0u32; 35];
-    let renames = Plan {
+// A year of one rename a minute, on block name 5.
+fn renames() -> Plan {
+    Plan {
         kind: 6,
         only: 1,
         first: 5,
         count: 525600,
-    };
-    run(renames, &mut words, &mut again, pool, tally);
+    }
 }
 
 // A line: what was run, and its tally.
@@ -75,7 +46,7 @@ fn put_tally(out: &mut [u8], at: usize, name: &[u8], tally: &[u64]) -> usize {
     ascii_lines::put_byte(out, p, b'\n')
 }
 
-// The line of a kind in buffers of each size, and its tally added to that of all.
+// The line of a kind in buffers of one to sixty-five packets, most with a tail, and its tally added to that of all.
 fn put_kind(
     out: &mut [u8],
     at: usize,
@@ -85,11 +56,11 @@ fn put_kind(
     all: &mut [u64],
 ) -> usize {
     let mut tally = [0u64; 10];
-    in_4(kind, pool, &mut tally);
-    in_7(kind, pool, &mut tally);
-    in_13(kind, pool, &mut tally);
-    in_34(kind, pool, &mut tally);
-    in_263(kind, pool, &mut tally);
+    in_words(4, mixed(kind), pool, &mut tally);
+    in_words(7, mixed(kind), pool, &mut tally);
+    in_words(13, mixed(kind), pool, &mut tally);
+    in_words(34, mixed(kind), pool, &mut tally);
+    in_words(263, mixed(kind), pool, &mut tally);
     add(all, &tally);
     put_tally(out, at, name, &tally)
 }
@@ -97,7 +68,7 @@ fn put_kind(
 // The line of the year, and its tally added to that of all.
 fn put_year(out: &mut [u8], at: usize, pool: &[u8], all: &mut [u64]) -> usize {
     let mut tally = [0u64; 10];
-    year(pool, &mut tally);
+    in_words(35, renames(), pool, &mut tally);
     add(all, &tally);
     put_tally(out, at, b"renames-of-a-year", &tally)
 }
