@@ -1,49 +1,22 @@
--- One turn of a loop that fills a buffer: the first words are the values of f, the others are unchanged. From the laws of `upTo`.
-use Prim.Native.Nat.{ℕ, zero, suc, _+_, _*_, _/_, _%_, _<_, _≤_}
+-- What is cleared and written, turn by turn and at the end. From the laws of `Filled` of fields.
+use Prim.Native.Nat.{ℕ, zero, suc, _+_, _-_, _*_, _/_, _<_, _≤_}
 use mathlib.Core.Path.{_≡_, refl, sym, ap, _∙_}
 use mathlib.Core.Logic.{⊎-elim}
 use mathlib.Core.List.{List}
 use native.Mathlib.Omega.{arith}
 use native.Mathlib.Nat.{add-zero}
-use lib.ListN.{length, getD, set, length-set}
+use lib.ListN.{length, getD, set}
 use lib.Seq.{ext-getD}
-use borrow.Author.Tests.{lt-ltb, le-ltb, eq-eqb, ne-eqb}
+use borrow.Author.Tests.{lt-ltb, le-ltb, lt-leb, ne-eqb}
 use lib.Dec.{ltb, eqb}
 use Rattle.laws.specs.Pick.{pick}
 use Rattle.laws.specs.Lists.{upTo}
 use Rattle.laws.proofs.Pick.{below}
-use Rattle.laws.proofs.Lists.{length-upTo, upTo-more, upTo-below, upTo-rest, upTo-kept}
-use Rattle.text.specs.Written.{wordIn, wordNew, wholeWords, blank}
+use Rattle.laws.proofs.Lists.{length-upTo, upTo-below, upTo-rest}
+use Rattle.text.specs.Written.{wordIn, wordNew, wholeWords, blank, written}
 use Rattle.text.proofs.Written.{word-packet}
-use Rattle.buffer.specs.Acts.{setFour, clearFrom}
-
-pub record Filled (i : ℕ) (f : ℕ → ℕ) (found ws : List ℕ) : Type 0 where
-  pub long : length ws ≡ length found
-  pub is : ws ≡ upTo i f found
-
-pub none-filled : (f : ℕ → ℕ) (ws : List ℕ) → Filled 0 f ws ws
-unfolding upTo
-none-filled f ws = record { long = refl; is = refl }
-
-pub is-filled : (i : ℕ) (f : ℕ → ℕ) (found ws : List ℕ) → ws ≡ upTo i f found → Filled i f found ws
-is-filled i f found ws e = record { long = rw e (length-upTo i f found); is = e }
-
-module _ {i : ℕ} {f : ℕ → ℕ} {found ws : List ℕ} (w : Filled i f found ws) where
-  -- the words from i on are unchanged
-  pub filled-rest : (k : ℕ) → i ≤ k → getD ws k 0 ≡ getD found k 0
-  filled-rest k h = rw (w .is) (upTo-rest i f found k h)
-
-  -- one more word
-  pub more-filled : (a : ℕ) → i < length found → a ≡ f i → Filled (i + 1) f found (set ws i a)
-  more-filled a h e = record { long = simp length-set (w .long); is = rw (w .is, e) (upTo-more i f found h) }
-
-  -- a word that f leaves unchanged
-  pub kept-filled : i < length found → f i ≡ getD found i 0 → Filled (suc i) f found ws
-  kept-filled h e = record { long = w .long; is = w .is ∙ sym (upTo-kept i f found h e) }
-
-  -- after the last turn
-  pub all-filled : (j : ℕ) → i ≡ j → ws ≡ upTo j f found
-  all-filled j e = rw (← e) (w .is)
+use Rattle.fields.proofs.Filled.{Filled, none-filled, more-filled, kept-filled}
+use Rattle.buffer.specs.Acts.{setFour, clearFrom, formatted, fillText}
 
 -- at the start, if f leaves the first i words unchanged
 pub found-filled : (i : ℕ) (f : ℕ → ℕ) (ws : List ℕ) → i ≤ length ws → ((k : ℕ) → k < i → f k ≡ getD ws k 0) → Filled i f ws ws
@@ -107,24 +80,7 @@ module _ (head : ℕ) (ws : List ℕ) where
       let w : Filled (0 + 1) f ws (set ws 0 head) = more-filled (none-filled f ws) head (omega arith) refl in
       ap (clearFrom 1) (w .is) ∙ clear-rest f 1 ws (omega arith) (λ k l. rw (ne-eqb k 0 (λ e. omega arith)))
 
--- a change of the first word of each packet
-abbrev pub firsts : (ℕ → ℕ) → List ℕ → ℕ → ℕ
-firsts change ws k = pick (eqb (k % 4) 0) (change (getD ws k 0)) (getD ws k 0)
-
-module _ (change : ℕ → ℕ) (ws : List ℕ) (k : ℕ) where
-  is-first : k % 4 ≡ 0 → firsts change ws k ≡ change (getD ws k 0)
-  is-first h = rw (eq-eqb (k % 4) 0 h)
-
-  no-first : (k % 4 ≡ 0 → ⊥) → firsts change ws k ≡ getD ws k 0
-  no-first h = rw (ne-eqb (k % 4) 0 h)
-
--- one more packet
-pub packet-filled : (change : ℕ → ℕ) {found ws : List ℕ} (p a : ℕ) → Filled (p * 4) (firsts change found) found ws → (p + 1) * 4 ≤ length found → a ≡ change (getD ws (p * 4) 0) → Filled ((p + 1) * 4) (firsts change found) found (set ws (p * 4) a)
-packet-filled change {found} {ws} p a w h e =
-    let q : a ≡ firsts change found (p * 4) = e ∙ ap change (filled-rest w (p * 4) (omega arith)) ∙ sym (is-first change found (p * 4) (omega arith)) in
-    let one = more-filled w a (omega arith) q in
-    let two = kept-filled one (omega arith) (no-first change found (p * 4 + 1) (λ z. omega arith)) in
-    let three = kept-filled two (omega arith) (no-first change found (suc (p * 4 + 1)) (λ z. omega arith)) in
-    let four = kept-filled three (omega arith) (no-first change found (suc (suc (p * 4 + 1))) (λ z. omega arith)) in
-    let m : suc (suc (suc (p * 4 + 1))) ≡ (p + 1) * 4 = omega arith in
-    rw m at four
+-- when text is written
+pub text-filled : (text : List ℕ) (offset head n : ℕ) (ws : List ℕ) → offset < 14 → n ≤ 64 → fillText text offset head n ws ≡ written ws text (formatted head) (14 - offset) n
+unfolding fillText
+text-filled text offset head n ws h l = rw (lt-leb 14 offset h, le-ltb 64 n l)

@@ -1,4 +1,3 @@
-// Changes to a lent buffer: putting a number into a field, clearing packets, writing text. A change that cannot be made leaves the buffer as it is.
-pub mod fields;
+// Clearing the packets of a lent buffer, and writing text into them. A change that cannot be made leaves the buffer as it is.
 pub mod packets;
 pub mod texts;

@@ -7,9 +7,9 @@ ghost use Rattle.laws.specs.Lists.{upTo};
 ghost use Rattle.text.specs.Octets.{dueFormat};
 ghost use Rattle.text.specs.Written.{octetAt, wordIn, wordNew};
 ghost use Rattle.buffer.specs.Acts.{setFour, formatted, fillText};
-use crate::fields::with_field;
 use crate::packets::clear_from;
 use counts::PacketNumber;
+use fields::with_field;
 use text::big_endian::big_endian;
 use text::packets::due_format;
 

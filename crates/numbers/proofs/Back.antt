@@ -11,7 +11,7 @@ use borrow.Author.Tests.{ne-eqb, eqb-false, not-false}
 use Rattle.laws.specs.Lists.{each}
 use Rattle.laws.proofs.Pick.{never, passed}
 use Rattle.slots.specs.Slots.{fits}
-use Rattle.buffer.specs.Acts.{putIns}
+use Rattle.fields.specs.Puts.{putIns}
 use Rattle.kinds.specs.declared.kind.Kind.{Kind}
 use Rattle.kinds.specs.declared.kind.Kind.the-variants as K
 use Rattle.kinds.specs.declared.kind.Known.{Known}

@@ -11,7 +11,7 @@ use lib.Dec.{leb}
 use borrow.Author.Tests.{lt-ltb, le-ltb, leb-true, leb-false}
 use Rattle.laws.specs.Pick.{both}
 use Rattle.slots.specs.Slots.{Slot}
-use Rattle.buffer.specs.Acts.{putIn}
+use Rattle.fields.specs.Puts.{putIn}
 use Rattle.kinds.specs.Layout.{Part}
 use Rattle.table.specs.declared.places.Place.{Place}
 use Rattle.table.specs.Places.{slotAt, PlaceIs}

@@ -11,7 +11,7 @@ use lib.Dec.{ltb}
 use Rattle.laws.specs.Lists.{map}
 use Rattle.laws.proofs.Pick.{picked}
 use Rattle.slots.specs.Slots.{Slot, fits}
-use Rattle.buffer.specs.Acts.{putIns}
+use Rattle.fields.specs.Puts.{putIns}
 use Rattle.kinds.specs.declared.kind.Kind.{Kind}
 use Rattle.kinds.specs.declared.kind.Kind.the-variants as K
 use Rattle.kinds.specs.Layout.{Part, layout, parts}

@@ -5,7 +5,7 @@ use mathlib.Core.List.{List, [], _∷_}
 use lib.Dec.{ltb}
 use Rattle.laws.specs.Pick.{both}
 use Rattle.slots.specs.Slots.{Slot}
-use Rattle.buffer.specs.Acts.{putIn}
+use Rattle.fields.specs.Puts.{putIn}
 use Rattle.kinds.specs.Layout.{Part}
 use Rattle.table.specs.Places.{slotAt}
 

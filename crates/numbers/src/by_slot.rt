@@ -2,8 +2,8 @@
 ghost use mathlib.Core.Path.{_≡_};
 ghost use Rattle.kinds.specs.Layout.{layout};
 ghost use Rattle.numbers.specs.BySlot.{fitFrom, putFrom};
-use buffer::fields::put_field;
-use buffer::fields::too_large;
+use fields::put_field;
+use fields::too_large;
 use kinds::kind::Kind;
 use table::places::place_of;
 

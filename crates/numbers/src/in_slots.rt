@@ -1,7 +1,7 @@
 // The numbers of a record slot by slot, in the table's order: held to their limits, and put into words.
 ghost use mathlib.Core.Path.{_≡_};
 ghost use Rattle.slots.specs.Slots.{fits};
-ghost use Rattle.buffer.specs.Acts.{putIns};
+ghost use Rattle.fields.specs.Puts.{putIns};
 ghost use Rattle.kinds.specs.Layout.{layout, parts};
 ghost use Rattle.numbers.specs.FromNumbers.{within, valuesFrom, slotNumbers, plainSlots, pairSlots};
 use crate::Numbers;

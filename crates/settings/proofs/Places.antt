@@ -14,7 +14,7 @@ use Rattle.table.specs.declared.names.PairName.{PairName}
 use Rattle.table.specs.declared.names.PairName.the-variants as P
 use Rattle.table.specs.declared.names.FieldAt.{FieldAt}
 use Rattle.table.specs.Named.{flagNamed, numberNamed, pairNamed, flagAt, numberAt, pairAt, FieldIs, HomeIs}
-use Rattle.buffer.specs.Acts.{putIns}
+use Rattle.fields.specs.Puts.{putIns}
 use Rattle.numbers.specs.BySlot.{fitFrom, putFrom}
 use Rattle.standard.specs.Words.{setOn}
 use Rattle.table.specs.declared.names.Home.{Home}

@@ -23,11 +23,11 @@ use Rattle.records.specs.Settings.{tooLarge}
 use Rattle.standard.specs.Heads.{packetsOf}
 use Rattle.standard.specs.Walk.{walkOf}
 use Rattle.standard.specs.Words.{outcome, unchanged, missing, answerTo, actIn, setOn}
-use Rattle.buffer.specs.Acts.{putIn, putIns}
+use Rattle.fields.specs.Puts.{putIn, putIns}
 use Rattle.table.specs.Places.{slotAt}
 use Rattle.table.specs.Named.{HomeIs}
 use Rattle.numbers.specs.BySlot.{fitFrom, putFrom}
-use Rattle.buffer.proofs.Puts.{ins-put}
+use Rattle.fields.proofs.Puts.{ins-put}
 use Rattle.table.specs.declared.names.Home.{Home}
 use Rattle.settings.specs.declared.target.Target.{Target}
 use Rattle.settings.specs.declared.target.Target.the-variants as T

@@ -9,7 +9,7 @@ use Rattle.kinds.specs.declared.refusal.Refusal.the-variants.{NumberTooLarge}
 use Rattle.kinds.specs.Layout.{layout}
 use Rattle.table.specs.declared.names.Home.{Home}
 use Rattle.table.specs.Places.{slotAt}
-use Rattle.buffer.specs.Acts.{putIn}
+use Rattle.fields.specs.Puts.{putIn}
 use Rattle.numbers.specs.BySlot.{fitFrom, putFrom}
 use Rattle.records.specs.declared.answers.Answer.the-variants as A
 use Rattle.standard.specs.Walk.{walkOf}

@@ -22,7 +22,8 @@ use Rattle.table.specs.Places.{PlaceIs, slotAt}
 use Rattle.standard.specs.Heads.{packetsOf}
 use Rattle.standard.specs.Walk.{walkOf}
 use Rattle.standard.specs.Words.{outcome, unchanged}
-use Rattle.buffer.specs.Acts.{putEach, fillText}
+use Rattle.fields.specs.Puts.{putEach}
+use Rattle.buffer.specs.Acts.{fillText}
 use Rattle.reading.specs.Bodies.{offsetOf}
 use Rattle.reading.proofs.TextRows.{text-capacity}
 use Rattle.settings.specs.declared.target.Target.the-variants as T

@@ -25,8 +25,10 @@ use Rattle.standard.specs.Heads.{packetsOf}
 use Rattle.standard.specs.Reading.{isBad}
 use Rattle.standard.specs.Walk.{walkOf}
 use Rattle.standard.specs.Words.{outcome, answerTo, actIn, putWord, headOf, textWritten, setOn}
-use Rattle.buffer.specs.Acts.{putEach, formatted, fillText}
-use Rattle.buffer.proofs.Puts.{each-put, text-filled}
+use Rattle.fields.specs.Puts.{putEach}
+use Rattle.buffer.specs.Acts.{formatted, fillText}
+use Rattle.fields.proofs.Puts.{each-put}
+use Rattle.buffer.proofs.Turns.{text-filled}
 use Rattle.table.specs.Places.{slotAt}
 use Rattle.reading.specs.Bodies.{offsetOf}
 use Rattle.reading.proofs.TextRows.{text-capacity, offset-few}

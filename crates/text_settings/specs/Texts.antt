@@ -20,7 +20,8 @@ use Rattle.standard.specs.Heads.{headWord, packetsOf}
 use Rattle.standard.specs.Reading.{isBad}
 use Rattle.standard.specs.Walk.{walkOf}
 use Rattle.standard.specs.Words.{Outcome, outcome, unchanged}
-use Rattle.buffer.specs.Acts.{putEach, fillText}
+use Rattle.fields.specs.Puts.{putEach}
+use Rattle.buffer.specs.Acts.{fillText}
 use Rattle.table.specs.Places.{slotAt}
 use Rattle.reading.specs.Bodies.{offsetOf}
 use Rattle.settings.specs.Target.{targetOf, settled}

@@ -24,9 +24,9 @@ use Rattle.records.specs.declared.message.Message.{Message}
 use Rattle.records.specs.declared.answers.Answer.the-variants as A
 use Rattle.records.specs.Records.{kindIn, valuesOf}
 use Rattle.standard.specs.Heads.{headWord}
-use Rattle.buffer.specs.Acts.{putIns}
+use Rattle.fields.specs.Puts.{putIns}
 use Rattle.standard.specs.Words.{outcome, unchanged, encodeIn, encode, writeOn}
-use Rattle.buffer.proofs.Puts.{ins-put}
+use Rattle.fields.proofs.Puts.{ins-put}
 use Rattle.writing.specs.Put.{putRecord}
 
 pub write-text : (m : Message) (ws : List ℕ) → hasText (layout (kindIn m) .body) ≡ true → writeOn m ws ≡ unchanged NoSuchField ws

@@ -6,7 +6,7 @@ use Rattle.kinds.specs.Layout.{layout, parts}
 use Rattle.records.specs.declared.message.Message.{Message}
 use Rattle.records.specs.Records.{kindIn, valuesOf}
 use Rattle.standard.specs.Heads.{headWord}
-use Rattle.buffer.specs.Acts.{putIns}
+use Rattle.fields.specs.Puts.{putIns}
 
 -- every whole packet zero, then the head, and the record's fields put slot by slot
 unfoldable pub putRecord : Message → List ℕ → List ℕ

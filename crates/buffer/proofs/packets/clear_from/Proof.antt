@@ -7,7 +7,8 @@ use lib.Dec.{ltb}
 use borrow.Author.Tests.{lt-ltb, le-ltb}
 use Rattle.laws.specs.Pick.{pick}
 use Rattle.buffer.specs.Acts.{clearFrom}
-use Rattle.buffer.proofs.Turns.{Filled, found-filled, more-filled, all-filled}
+use Rattle.fields.proofs.Filled.{Filled, more-filled, all-filled}
+use Rattle.buffer.proofs.Turns.{found-filled}
 use borrow.Author.Needs.{needs}
 use Rattle.buffer.proofs.packets.clear_from.Statement.{statement}
 use Rattle.buffer.proofs.packets.clear_from.Tie as tie

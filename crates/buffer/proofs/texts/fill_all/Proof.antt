@@ -2,7 +2,7 @@
 use Prim.Native.Nat.{_*_}
 use native.Mathlib.Omega.{arith}
 use Rattle.laws.proofs.Lists.{upTo-again}
-use Rattle.buffer.proofs.Turns.{is-filled, all-filled}
+use Rattle.fields.proofs.Filled.{is-filled, all-filled}
 use borrow.Author.Needs.{needs}
 use Rattle.buffer.proofs.texts.fill_all.Statement.{statement}
 use Rattle.buffer.proofs.texts.fill_all.Tie as tie

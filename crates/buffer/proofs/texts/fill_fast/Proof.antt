@@ -1,6 +1,7 @@
 -- `texts::fill_fast` meets its contract, by the laws of `Turns`: the full packets and one more.
 use native.Mathlib.Omega.{arith}
-use Rattle.buffer.proofs.Turns.{none-filled, is-filled, text-more}
+use Rattle.fields.proofs.Filled.{none-filled, is-filled}
+use Rattle.buffer.proofs.Turns.{text-more}
 use borrow.Author.Needs.{needs}
 use Rattle.buffer.proofs.texts.fill_fast.Statement.{statement}
 use Rattle.buffer.proofs.texts.fill_fast.Tie as tie

@@ -7,7 +7,8 @@ use native.Mathlib.Nat.{suc-mul}
 use Rattle.text.specs.Written.{wordNew}
 use Rattle.buffer.specs.Acts.{formatted}
 use Rattle.buffer.proofs.Octets.{product}
-use Rattle.buffer.proofs.Turns.{Filled, none-filled, text-more}
+use Rattle.fields.proofs.Filled.{Filled, none-filled}
+use Rattle.buffer.proofs.Turns.{text-more}
 use borrow.Author.Needs.{needs}
 use Rattle.buffer.proofs.texts.fill_full_packets.Statement.{statement}
 use Rattle.buffer.proofs.texts.fill_full_packets.Tie as tie

@@ -3,7 +3,8 @@ use Prim.Native.Nat.{_≤_, _-_, _*_}
 use native.Mathlib.Omega.{arith}
 use Rattle.text.specs.Written.{wordNew}
 use Rattle.buffer.specs.Acts.{formatted}
-use Rattle.buffer.proofs.Turns.{Filled, none-filled, text-more, all-filled}
+use Rattle.fields.proofs.Filled.{Filled, none-filled, all-filled}
+use Rattle.buffer.proofs.Turns.{text-more}
 use borrow.Author.Needs.{needs}
 use Rattle.buffer.proofs.texts.fill_packets.Statement.{statement}
 use Rattle.buffer.proofs.texts.fill_packets.Tie as tie

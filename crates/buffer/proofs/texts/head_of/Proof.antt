@@ -3,7 +3,7 @@ use mathlib.Core.Path.{_∙_, ap}
 use lib.Dec.{lit≤}
 use Rattle.text.proofs.Needed.{due-format-small}
 use Rattle.buffer.specs.Acts.{formatted}
-use Rattle.buffer.proofs.Puts.{put-fitting}
+use Rattle.fields.proofs.Puts.{put-fitting}
 use borrow.Author.Needs.{needs}
 use Rattle.buffer.proofs.texts.head_of.Statement.{statement}
 use Rattle.buffer.proofs.texts.head_of.Tie as tie

@@ -2,7 +2,7 @@
 use mathlib.Core.Path.{refl}
 use Rattle.slots.specs.Slots.{fits}
 use Rattle.kinds.specs.declared.kind.Kind.the-variants as K
-use Rattle.buffer.specs.Acts.{putIns}
+use Rattle.fields.specs.Puts.{putIns}
 use Rattle.numbers.specs.BySlot.{fitFrom, putFrom}
 use Rattle.settings.proofs.Slots.{facts, set-slots}
 use borrow.Author.Needs.{needs}

@@ -1,17 +1,17 @@
 -- A field put by products and remainders, and when an act changes the buffer. From `put-lt`, by cases on the tests, and by induction on the table.
-use Prim.Native.Nat.{ℕ, _+_, _-_, _*_, _/_, _%_, _^_, _<_, _≤_}
+use Prim.Native.Nat.{ℕ, _+_, _*_, _/_, _%_, _^_, _<_, _≤_}
 use mathlib.Core.Path.{_≡_, refl, ap, _∙_, fun-ext}
 use mathlib.Core.Bool.{true}
 use mathlib.Core.List.{List, [], _∷_}
 use lib.ListN.{length, getD, set}
 use lib.Pow.{pow-pos}
-use borrow.Author.Tests.{lt-ltb, le-ltb, lt-leb, ltb-true, leb-true}
+use borrow.Author.Tests.{lt-ltb, le-ltb, ltb-true, leb-true}
 use Rattle.laws.proofs.Pick.{both-left, both-right}
 use Rattle.laws.specs.Bits.{putField}
 use Rattle.laws.proofs.Bits.{put-lt}
-use Rattle.text.specs.Written.{written, eachFirst}
+use Rattle.text.specs.Written.{eachFirst}
 use Rattle.slots.specs.Slots.{Slot, put, putAll, fits, bitsWithin}
-use Rattle.buffer.specs.Acts.{putIfFits, putIn, putEach, formatted, fillText, putIns}
+use Rattle.fields.specs.Puts.{putIfFits, putIn, putIns, putEach}
 
 module _ (w at span v : ℕ) where
   pub put-fitting : at + span ≤ 32 → v < 2 ^ span → putIfFits w at span v ≡ putField w at span v
@@ -58,12 +58,8 @@ ins-put [] v ws w f = refl
 ins-put (s ∷ ss) v ws w f =
     ap (putIn (s .word) (s .at) (s .span) (v (s .key))) (ins-put ss v ws (both-right _ _ w) (both-right _ _ f)) ∙ in-put s (v (s .key)) (putAll ss v ws) (leb-true _ _ (both-left _ _ w)) (ltb-true _ _ (both-left _ _ f))
 
--- ---- when the other acts are done
+-- ---- a number in each packet
 pub each-put : (n at span v : ℕ) (ws : List ℕ) → n ≤ length ws / 4 → at + span ≤ 32 → v < 2 ^ span → putEach n at span v ws ≡ eachFirst n (λ w. putField w at span v) ws
 unfolding putEach
 each-put n at span v ws l h hv =
     rw (le-ltb (length ws / 4) n l) (ap (λ (f : ℕ → ℕ). eachFirst n f ws) (fun-ext (λ w. put-fitting w at span v h hv)))
-
-pub text-filled : (text : List ℕ) (offset head n : ℕ) (ws : List ℕ) → offset < 14 → n ≤ 64 → fillText text offset head n ws ≡ written ws text (formatted head) (14 - offset) n
-unfolding fillText
-text-filled text offset head n ws h l = rw (lt-leb 14 offset h, le-ltb 64 n l)

@@ -1,11 +1,11 @@
--- `fields::with_field` meets its contract, by the laws of `Puts`.
+-- `with_field` meets its contract, by the laws of `Puts`.
 use mathlib.Core.Path.{sym, _∙_}
 use native.Mathlib.Omega.{arith}
 use borrow.Author.Tests.{leb-true, leb-false}
-use Rattle.buffer.proofs.Puts.{put-fitting, put-outside, put-too-large, low-pos, top-pos, put-is, put-in-word}
+use Rattle.fields.proofs.Puts.{put-fitting, put-outside, put-too-large, low-pos, top-pos, put-is, put-in-word}
 use borrow.Author.Needs.{needs}
-use Rattle.buffer.proofs.fields.with_field.Statement.{statement}
-use Rattle.buffer.proofs.fields.with_field.Tie as tie
+use Rattle.fields.proofs.with_field.Statement.{statement}
+use Rattle.fields.proofs.with_field.Tie as tie
 
 returns : tie.Need-returns
 returns c = put-outside _ _ _ _ (omega arith)

@@ -1,10 +1,10 @@
--- `fields::put_field` meets its contract, by its definition.
+-- `put_field` meets its contract, by its definition.
 use mathlib.Core.Path.{sym}
 use lib.Seq.{set-out}
-use Rattle.buffer.specs.Acts.{putIn}
+use Rattle.fields.specs.Puts.{putIn}
 use borrow.Author.Needs.{needs}
-use Rattle.buffer.proofs.fields.put_field.Statement.{statement}
-use Rattle.buffer.proofs.fields.put_field.Tie as tie
+use Rattle.fields.proofs.put_field.Statement.{statement}
+use Rattle.fields.proofs.put_field.Tie as tie
 
 pub put-field-spec : {M : Type 1} → statement M
 unfolding putIn

@@ -1,12 +1,12 @@
--- `fields::too_large` meets its contract: a u32 fits in 32 bits.
+-- `too_large` meets its contract: a u32 fits in 32 bits.
 use Prim.Native.Nat.{_^_, _≤_}
 use mathlib.Core.Path.{sym}
 use native.Mathlib.Omega.{arith}
 use lib.Pow.{pow-mono}
 use borrow.Author.Tests.{lt-leb}
 use borrow.Author.Needs.{needs}
-use Rattle.buffer.proofs.fields.too_large.Statement.{statement}
-use Rattle.buffer.proofs.fields.too_large.Tie as tie
+use Rattle.fields.proofs.too_large.Statement.{statement}
+use Rattle.fields.proofs.too_large.Tie as tie
 
 returns : tie.Need-returns
 returns c = let m : 2 ^ 32 ≤ 2 ^ (c .before .args .span) = pow-mono (c .if1 .taken) in sym (lt-leb _ (c .before .args .v) (omega arith))

@@ -1,4 +1,4 @@
--- `fields::put_each` meets its contract, by the laws of `Turns`, turn by turn.
+-- `put_each` meets its contract, by the laws of `Turns`, turn by turn.
 use Prim.Native.Nat.{_≤_, _-_, _*_, _/_}
 use mathlib.Core.Path.{refl}
 use native.Mathlib.Omega.{arith}
@@ -6,11 +6,11 @@ use lib.ListN.{length}
 use borrow.Author.Tests.{lt-ltb, le-ltb}
 use Rattle.laws.proofs.Pick.{here, past}
 use Rattle.text.specs.Written.{eachFirst}
-use Rattle.buffer.specs.Acts.{putIfFits, putEach}
-use Rattle.buffer.proofs.Turns.{Filled, firsts, none-filled, packet-filled, all-filled}
+use Rattle.fields.specs.Puts.{putIfFits, putEach}
+use Rattle.fields.proofs.Filled.{Filled, firsts, none-filled, packet-filled, all-filled}
 use borrow.Author.Needs.{needs}
-use Rattle.buffer.proofs.fields.put_each.Statement.{statement}
-use Rattle.buffer.proofs.fields.put_each.Tie as tie
+use Rattle.fields.proofs.put_each.Statement.{statement}
+use Rattle.fields.proofs.put_each.Tie as tie
 
 abbrev Inv-loop : tie.InvT-loop
 Inv-loop words₀ at span v n p₀ words p = (n ≤ length words₀ / 4) × (p ≤ n) × Filled (p * 4) (firsts (λ w. putIfFits w at span v) words₀) words₀ words

@@ -2,7 +2,7 @@
 ghost use mathlib.Core.Path.{_≡_};
 ghost use Prim.Native.Nat.{_^_, _≤_};
 ghost use lib.Dec.{leb};
-ghost use Rattle.buffer.specs.Acts.{putIfFits, putIn, putEach};
+ghost use Rattle.fields.specs.Puts.{putIfFits, putIn, putEach};
 use counts::PacketNumber;
 
 // 2 to the power of `k`.

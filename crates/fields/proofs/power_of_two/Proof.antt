@@ -1,9 +1,9 @@
--- `fields::power_of_two` meets its contract, by the laws of `Bits`.
+-- `power_of_two` meets its contract, by the laws of `Bits`.
 use Rattle.laws.proofs.Bits.{one-shl}
 use native.Mathlib.Omega.{arith}
 use borrow.Author.Needs.{needs}
-use Rattle.buffer.proofs.fields.power_of_two.Statement.{statement}
-use Rattle.buffer.proofs.fields.power_of_two.Tie as tie
+use Rattle.fields.proofs.power_of_two.Statement.{statement}
+use Rattle.fields.proofs.power_of_two.Tie as tie
 
 returns : tie.Need-returns
 returns c = let h = c .pre in one-shl 64 (omega arith)
