@@ -1,9 +1,11 @@
 -- A CHOICE FROM ITS CODE: a code that names none is refused.
 use Prim.Native.Nat.{ℕ}
 use lib.Dec.{ltb, eqb}
+use mathlib.Core.List.{[], _∷_}
 use Rattle.laws.specs.Pick.{pick}
 use Rattle.kinds.specs.declared.refusal.Refusal.the-variants.{BadPort, BadDirection, NumberTooLarge}
-use Rattle.kinds.specs.Choices.{hintOf, portOf, directionOf, noPort, noDirection}
+use Rattle.kinds.specs.Choices.{hintCode, portCode, directionCode, hintOf, portOf, directionOf, noPort, noDirection}
+use Rattle.records.specs.Answers.{Said, accepted, refused}
 use Rattle.c_structs.specs.declared.choices.HintFromCode.{HintFromCode}
 use Rattle.c_structs.specs.declared.choices.HintFromCode.the-variants as H
 use Rattle.c_structs.specs.declared.choices.PortFromCode.{PortFromCode}
@@ -21,3 +23,16 @@ portFromCode n = pick (ltb 3 n) (P.Refused NumberTooLarge) (pick (eqb n noPort) 
 abbrev pub directionFromCode : ℕ → DirectionFromCode
 directionFromCode n =
     pick (ltb 3 n) (D.Refused NumberTooLarge) (pick (eqb n noDirection) (D.Refused BadDirection) (D.Is (directionOf n)))
+
+-- ---- the same in document 01's numbers: the code of the choice, or the refusal
+abbrev pub saidHint : HintFromCode → Said
+saidHint (H.Is h) = accepted (hintCode h ∷ [])
+saidHint (H.Refused r) = refused r []
+
+abbrev pub saidPort : PortFromCode → Said
+saidPort (P.Is p) = accepted (portCode p ∷ [])
+saidPort (P.Refused r) = refused r []
+
+abbrev pub saidDirection : DirectionFromCode → Said
+saidDirection (D.Is d) = accepted (directionCode d ∷ [])
+saidDirection (D.Refused r) = refused r []

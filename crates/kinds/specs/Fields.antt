@@ -93,17 +93,21 @@ valueIn (Setting.device-manufacturer a b c) = a ∷ b ∷ c ∷ []
 valueIn (Setting.software-version a b c d) = a ∷ b ∷ c ∷ d ∷ []
 valueIn (Setting.text t bytes) = bytes
 
+-- one of three by what a field holds: a pair of septets, a text, or numbers that stand as they are
+abbrev pub byShape : {A : Type 0} → Field → A → A → A → A
+byShape (Field.pair p) a b c = a
+byShape (Field.text t) a b c = b
+byShape (Field.flag f) a b c = c
+byShape (Field.number n) a b c = c
+byShape Field.ui-hint a b c = c
+byShape Field.midi1-port a b c = c
+byShape Field.direction a b c = c
+byShape Field.device-manufacturer a b c = c
+byShape Field.software-version a b c = c
+
 -- the text that it sets; none where it sets another field
 abbrev pub textIn : Setting → List ℕ
-textIn (Setting.flag f b) = []
-textIn (Setting.number n x) = []
-textIn (Setting.pair p x) = []
-textIn (Setting.ui-hint h) = []
-textIn (Setting.midi1-port p) = []
-textIn (Setting.direction d) = []
-textIn (Setting.device-manufacturer a b c) = []
-textIn (Setting.software-version a b c d) = []
-textIn (Setting.text t bytes) = bytes
+textIn s = byShape (fieldIn s) [] (valueIn s) []
 
 -- the value that a fresh message starts with: direction 3, all else 0, and text empty
 unfoldable pub start : Field → List ℕ
@@ -119,24 +123,8 @@ start (Field.text t) = []
 
 -- part i of a value, as it stands in a slot: the low or the high septet of a pair, else number i
 unfoldable pub partOf : Field → List ℕ → ℕ → ℕ
-partOf (Field.flag f) v i = getD v i 0
-partOf (Field.number n) v i = getD v i 0
-partOf (Field.pair p) v i = pick (eqb i 0) (getD v 0 0 % 128) (getD v 0 0 / 128)
-partOf Field.ui-hint v i = getD v i 0
-partOf Field.midi1-port v i = getD v i 0
-partOf Field.direction v i = getD v i 0
-partOf Field.device-manufacturer v i = getD v i 0
-partOf Field.software-version v i = getD v i 0
-partOf (Field.text t) v i = 0
+partOf f v i = byShape f (pick (eqb i 0) (getD v 0 0 % 128) (getD v 0 0 / 128)) 0 (getD v i 0)
 
 -- the value that has these parts
 unfoldable pub joined : Field → List ℕ → List ℕ
-joined (Field.flag f) xs = xs
-joined (Field.number n) xs = xs
-joined (Field.pair p) xs = (getD xs 0 0 + getD xs 1 0 * 128) ∷ []
-joined Field.ui-hint xs = xs
-joined Field.midi1-port xs = xs
-joined Field.direction xs = xs
-joined Field.device-manufacturer xs = xs
-joined Field.software-version xs = xs
-joined (Field.text t) xs = xs
+joined f xs = byShape f ((getD xs 0 0 + getD xs 1 0 * 128) ∷ []) xs xs

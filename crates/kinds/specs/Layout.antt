@@ -11,7 +11,7 @@ use Rattle.kinds.specs.declared.kind.Kind.{Kind}
 use Rattle.kinds.specs.declared.kind.Kind.the-variants as K
 use Rattle.kinds.specs.declared.kind.Known.{Known}
 use Rattle.kinds.specs.declared.kind.Known.the-variants.{Is, Unknown}
-use Rattle.kinds.specs.Fields.{Flag, Number, Pair, Text, Field, same, start, partOf, joined}
+use Rattle.kinds.specs.Fields.{Flag, Number, Pair, Text, Field, same, start, partOf, joined, Setting, valueIn}
 
 -- whose number stands in a slot, and which of the field's numbers
 pub record Part : Type 0 where
@@ -162,6 +162,10 @@ isText f (texts t start) = same f (Field.text t)
 -- the numbers that stand in the slots, given a value for each field
 abbrev pub parts : (Field → List ℕ) → Part → ℕ
 parts v p = partOf (p .field) (v (p .field)) (p .index)
+
+-- the numbers that a setting puts into the slots of its field
+abbrev pub numbersSet : Setting → Part → ℕ
+numbersSet s = parts (λ f. valueIn s)
 
 -- a field's value in the words; its starting value if the table lacks the field
 unfoldable pub held : Field → List ℕ → List ℕ

@@ -15,6 +15,7 @@ use Rattle.kinds.specs.declared.refusal.Refusal.the-variants.{UnknownStatus, Ba
 use Rattle.kinds.specs.Choices.{noPort, noDirection}
 use Rattle.kinds.specs.Fields.{Field, start}
 use Rattle.kinds.specs.Layout.{layout, kindOf, hasText, parts}
+use Rattle.records.specs.Answers.{Said, accepted, refused, saidMessage}
 use Rattle.records.specs.Records.{Valued, lookup, inOrder, recordOf}
 use Rattle.numbers.specs.declared.Numbers.{Numbers}
 use Rattle.numbers.specs.declared.to_record.FromNumbers.{FromNumbers}
@@ -48,6 +49,11 @@ fromKnown (Is k) c = fromKind k c
 -- refusal 5 first
 abbrev pub fromNumbers : Numbers → FromNumbers
 fromNumbers c = fromKnown (kindOf (c .status)) c
+
+-- the same in document 01's numbers: the message, or the refusal
+abbrev pub saidFrom : FromNumbers → Said
+saidFrom (G.Message m) = accepted (saidMessage m)
+saidFrom (G.Refused r) = refused r []
 
 -- what is looked at of numbers given for a kind: a fixed kind is one packet, and numbers past the kind's last are as 0
 abbrev pub trimmed : Kind → Numbers → Numbers

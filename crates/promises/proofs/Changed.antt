@@ -8,7 +8,7 @@ use Rattle.slots.proofs.Slots.{fits-those}
 use Rattle.utf8.specs.Utf8.{Valid, empty}
 use Rattle.text.specs.Octets.{needed}
 use Rattle.kinds.specs.Fields.{Field, Setting, same, fieldIn, valueIn}
-use Rattle.kinds.specs.Layout.{Part, Body, fixed, texts, capacityIn, mostIn, parts}
+use Rattle.kinds.specs.Layout.{Part, Body, fixed, texts, capacityIn, mostIn, parts, numbersSet}
 use Rattle.records.specs.Settings.{with}
 use Rattle.records.proofs.With.{parts-with, text-with, port-kept, direction-kept}
 use Rattle.standard.proofs.Accepted.{Accepted}
@@ -18,7 +18,7 @@ use Rattle.promises.specs.Good.{textFor, packetsFor, GoodValuesIn}
 pub good-with : (b : Body) (t : List (Slot Part)) (room : ℕ) (v : Field → List ℕ) (s : Setting) → GoodValuesIn b t room v → Accepted b t room s → GoodValuesIn b t room (with (fieldIn s) (valueIn s) v)
 good-with b t room v s g a =
     record {
-      numbers = ap (fits t) (sym (parts-with (fieldIn s) (valueIn s) v)) ∙ fits-those (λ p. same (p .field) (fieldIn s)) (parts (λ f. valueIn s)) (parts v) t (a .numbers) (g .numbers);
+      numbers = ap (fits t) (sym (parts-with (fieldIn s) (valueIn s) v)) ∙ fits-those (λ p. same (p .field) (fieldIn s)) (numbersSet s) (parts v) t (a .numbers) (g .numbers);
       valid = text b g a .0;
       most = text b g a .1;
       inside = text b g a .2;

@@ -19,7 +19,7 @@ use Rattle.text.proofs.Written.{length-written, word-at}
 use Rattle.text.proofs.Back.{text-back}
 use Rattle.text.proofs.Needed.{needed-holds, needed-some, due-format-small}
 use Rattle.kinds.specs.Fields.{Text, Field, Setting, fieldIn, valueIn, textIn, same}
-use Rattle.kinds.specs.Layout.{Part, texts, Row, slotsOf, parts, valuesIn, headSlot}
+use Rattle.kinds.specs.Layout.{Part, texts, Row, slotsOf, parts, valuesIn, headSlot, numbersSet}
 use Rattle.records.specs.Settings.{with}
 use Rattle.standard.specs.Heads.{headWord, packetsOf, packetFrom, headAt}
 use Rattle.standard.specs.Words.{putWord, headOf, textWritten, encodeIn, actIn}
@@ -128,16 +128,16 @@ module _ (r : Row) (x : Text) (from : ℕ) (k : TextRow r from) (ws : List ℕ) 
       fits-new : fits (r .fields) (parts new) ≡ true
       fits-new = good-with (texts x from) (r .fields) (packetsOf ws) v s g a .numbers
 
-      field-first : (p : ℕ) → p < count → putWord (slotsOf (fieldIn s) (r .fields)) (parts (λ f. valueIn s)) (wordIn text (headOf r v) cap count p 0) ≡ wordIn text (headOf r new) cap count p 0
+      field-first : (p : ℕ) → p < count → putWord (slotsOf (fieldIn s) (r .fields)) (numbersSet s) (wordIn text (headOf r v) cap count p 0) ≡ wordIn text (headOf r new) cap count p 0
       field-first p h =
-          ap (putWord (slotsOf (fieldIn s) (r .fields)) (parts (λ f. valueIn s))) (word-put v (g .numbers) p)
-          ∙ put-those-word (λ q. same (q .field) (fieldIn s)) (parts (λ f. valueIn s)) (parts v) (r .fields) (bare p) (k .sound) (a .numbers) (g .numbers)
+          ap (putWord (slotsOf (fieldIn s) (r .fields)) (numbersSet s)) (word-put v (g .numbers) p)
+          ∙ put-those-word (λ q. same (q .field) (fieldIn s)) (numbersSet s) (parts v) (r .fields) (bare p) (k .sound) (a .numbers) (g .numbers)
           ∙ ap (λ (u : Part → ℕ). putWord (r .fields) u (bare p)) (parts-with (fieldIn s) (valueIn s) v)
           ∙ sym (word-put new fits-new p)
 
-      field-set : eachFirst count (putWord (slotsOf (fieldIn s) (r .fields)) (parts (λ f. valueIn s))) (encodeIn (texts x from) r ws v) ≡ textWritten r cap new text ws
+      field-set : eachFirst count (putWord (slotsOf (fieldIn s) (r .fields)) (numbersSet s)) (encodeIn (texts x from) r ws v) ≡ textWritten r cap new text ws
       unfolding encodeIn
-      field-set = each-first text cap count (headOf r v) (headOf r new) ws room (putWord (slotsOf (fieldIn s) (r .fields)) (parts (λ f. valueIn s))) field-first
+      field-set = each-first text cap count (headOf r v) (headOf r new) ws room (putWord (slotsOf (fieldIn s) (r .fields)) (numbersSet s)) field-first
 
       -- the values after it
       is-text : same (fieldIn s) (Field.text x) ≡ true → textWritten r cap v (textIn s) ws ≡ encodeIn (texts x from) r ws new

@@ -2,14 +2,13 @@
 use Prim.Native.Nat.{ℕ, _*_}
 use mathlib.Core.List.{List}
 use lib.ListN.{take}
-use Rattle.laws.specs.Pick.{pick, both}
 use Rattle.kinds.specs.declared.kind.Kind.{Kind}
-use Rattle.kinds.specs.Fields.{Field, Setting, fieldIn, valueIn, same, start}
+use Rattle.kinds.specs.Fields.{Field, Setting, fieldIn, start}
 use Rattle.kinds.specs.Layout.{layout}
 use Rattle.records.specs.declared.message.Message.{Message}
 use Rattle.records.specs.Records.{recordOf}
-use Rattle.standard.specs.Words.{answerTo, encode}
-use Rattle.standard.specs.Lists.{SettingAnswer, isDone, lastAccepted}
+use Rattle.standard.specs.Words.{encode}
+use Rattle.standard.specs.Lists.{SettingAnswer, valueAfter, lastAccepted}
 use Rattle.promises.specs.Good.{textFor, packetsFor}
 
 -- the number of its packets
@@ -28,9 +27,9 @@ textGiven k v = textFor (layout k .body) v
 abbrev pub wordsFor : Kind → List ℕ → (Field → List ℕ) → List ℕ
 wordsFor k ws v = take (packetsNeeded k v * 4) (encode k ws v)
 
--- the values after a setting: the field's new value, if it is accepted
+-- the values after a setting
 abbrev pub changed : Kind → ℕ → Setting → (Field → List ℕ) → Field → List ℕ
-changed k room s v f = pick (both (isDone (answerTo (layout k) room s)) (same f (fieldIn s))) (valueIn s) (v f)
+changed k room s v f = valueAfter k room s f (v f)
 
 -- the values after a list on a fresh message: each field's last accepted value, or its starting value
 abbrev pub lastValues : Kind → ℕ → List Setting → Field → List ℕ

@@ -1,7 +1,10 @@
 -- What each answer says in document 01's numbers: the refusal's number, 0 where there is none, its place, and the answer's values.
 use Prim.Native.Nat.{ℕ}
 use mathlib.Core.List.{List, [], _∷_}
+use Rattle.kinds.specs.declared.kind.Known.{Known}
+use Rattle.kinds.specs.declared.kind.Known.the-variants.{Is, Unknown}
 use Rattle.kinds.specs.declared.refusal.Refusal.{Refusal}
+use Rattle.kinds.specs.declared.refusal.Refusal.the-variants.{UnknownStatus}
 use Rattle.records.specs.declared.message.Message.{Message}
 use Rattle.records.specs.declared.answers.Read.{Read}
 use Rattle.records.specs.declared.answers.Read.the-variants as R
@@ -28,19 +31,31 @@ accepted xs = record { refusal = 0; place = 0; values = xs }
 abbrev pub refused : Refusal → List ℕ → Said
 refused r xs = record { refusal = refusalNumber r; place = refusalPlace r; values = xs }
 
+-- a kind: its status; a status of no kind is refusal 5
+abbrev pub saidKnown : Known → Said
+saidKnown (Is k) = accepted (layout k .status ∷ [])
+saidKnown Unknown = refused UnknownStatus []
+
 -- a message: its status, its packets, and its fields in the table's order
-abbrev saidMessage : Message → List ℕ
+abbrev pub saidMessage : Message → List ℕ
 saidMessage m = layout (kindIn m) .status ∷ packetsIn m ∷ numbersIn m
 
 abbrev pub saidRead : Read → Said
 saidRead (R.Message m) = accepted (saidMessage m)
 saidRead (R.Refused r) = refused r []
 
--- another type: the type, its size, the next position; else the next position comes first
+-- which answer of the walk it is: 0 the end, 1 another type, 2 a message, 3 a refusal
+abbrev pub walkedCase : Walked → ℕ
+walkedCase W.End = 0
+walkedCase (W.Other t size next) = 1
+walkedCase (W.Message m next) = 2
+walkedCase (W.Refused r next) = 3
+
+-- the next position, then the type and size of another type, then the message; 0 and 0 for the type and size of a message
 abbrev pub saidWalked : Walked → Said
 saidWalked W.End = accepted []
-saidWalked (W.Other t size next) = accepted (t ∷ size .0 ∷ next .0 ∷ [])
-saidWalked (W.Message m next) = accepted (next .0 ∷ saidMessage m)
+saidWalked (W.Other t size next) = accepted (next .0 ∷ t ∷ size .0 ∷ [])
+saidWalked (W.Message m next) = accepted (next .0 ∷ 0 ∷ 0 ∷ saidMessage m)
 saidWalked (W.Refused r next) = refused r (next .0 ∷ [])
 
 abbrev pub saidPacket : PacketRead → Said

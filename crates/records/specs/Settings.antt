@@ -18,7 +18,7 @@ use Rattle.records.specs.declared.answers.Edited.{Edited}
 use Rattle.kinds.specs.Fields.{Number, Text, Field, Setting, fieldIn, valueIn, same}
 use Rattle.table.specs.declared.names.NumberName.{NumberName}
 use Rattle.table.specs.declared.names.NumberName.the-variants as N
-use Rattle.kinds.specs.Layout.{Part, layout, none, slotsOf, parts}
+use Rattle.kinds.specs.Layout.{Part, layout, none, slotsOf, parts, numbersSet}
 use Rattle.records.specs.Records.{kindIn, packetsIn, recordOf, valuesOf}
 
 -- the values with one field changed
@@ -31,7 +31,7 @@ lacks t s = none (slotsOf (fieldIn s) t)
 
 -- a number is above its field's largest
 abbrev pub tooLarge : List (Slot Part) → Setting → Bool
-tooLarge t s = not (fits (slotsOf (fieldIn s) t) (parts (λ f. valueIn s)))
+tooLarge t s = not (fits (slotsOf (fieldIn s) t) (numbersSet s))
 
 abbrev pub edited : Message → Answer → Edited
 edited m a = record { message = m; answer = a }

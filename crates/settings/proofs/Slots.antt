@@ -16,7 +16,7 @@ use Rattle.kinds.specs.declared.kind.Kind.{Kind}
 use Rattle.kinds.specs.declared.refusal.Refusal.{Refusal}
 use Rattle.kinds.specs.declared.refusal.Refusal.the-variants.{NumberTooLarge}
 use Rattle.kinds.specs.Fields.{Setting, fieldIn, valueIn, textIn, partOf, same, decided}
-use Rattle.kinds.specs.Layout.{Part, Row, Body, fixed, layout, slotsOf, parts}
+use Rattle.kinds.specs.Layout.{Part, Row, Body, fixed, layout, slotsOf, parts, numbersSet}
 use Rattle.kinds.proofs.Rows.{everyKind}
 use Rattle.records.specs.declared.answers.Answer.the-variants as A
 use Rattle.records.specs.Settings.{tooLarge}
@@ -113,25 +113,25 @@ module _ (k : Kind) (s : Setting) (b : Body) (t : List (Slot Part)) (f : facts k
   unfolding facts
   no-text = ap (λ (x : Facts). x .text) f
 
-  pub answer-is : (ws : List ℕ) (n : ℕ) → Own k n s ws → answerTo (layout k) (packetsOf ws) s ≡ pick (not (fits t (parts (λ f. valueIn s)))) (A.Refused NumberTooLarge) A.Done
+  pub answer-is : (ws : List ℕ) (n : ℕ) → Own k n s ws → answerTo (layout k) (packetsOf ws) s ≡ pick (not (fits t (numbersSet s))) (A.Refused NumberTooLarge) A.Done
   answer-is ws n o =
-      plain-answer (layout k) (packetsOf ws) s (own-has k s is-own) no-text (omega (arith, o .some, o .most)) ∙ ap (λ (x : List (Slot Part)). pick (not (fits x (parts (λ f. valueIn s)))) (A.Refused NumberTooLarge) A.Done) are-slots
+      plain-answer (layout k) (packetsOf ws) s (own-has k s is-own) no-text (omega (arith, o .some, o .most)) ∙ ap (λ (x : List (Slot Part)). pick (not (fits x (numbersSet s))) (A.Refused NumberTooLarge) A.Done) are-slots
 
 -- ---- such a setting of a fixed kind: refused by its target, or for a number, or the numbers are put into its slots
 module _ (k : Kind) (s : Setting) (t : List (Slot Part)) (f : facts k s ≡ plain fixed t) (ws : List ℕ) where
-  own-fixed : (n : ℕ) → Own k n s ws → setOn s ws ≡ fitted (fits t (parts (λ f. valueIn s))) (putIns t (parts (λ f. valueIn s)) ws) ws
+  own-fixed : (n : ℕ) → Own k n s ws → setOn s ws ≡ fitted (fits t (numbersSet s)) (putIns t (numbersSet s) ws) ws
   unfolding actIn
   own-fixed n o =
-      o .set ∙ split (fits t (parts (λ f. valueIn s)))
+      o .set ∙ split (fits t (numbersSet s))
       (λ e. rw (answer-is k s fixed t f ws n o, e, is-body k s fixed t f, are-slots k s fixed t f) (ap (outcome A.Done) (sym (ins-put t _ ws (is-narrow k s fixed t f) e))))
       (λ e. rw (answer-is k s fixed t f ws n o, e))
 
-  set-fixed : (x : Target) → targetOf (layout k .status) (walkOf ws 0) ≡ x → setOn s ws ≡ settled x (λ n. fitted (fits t (parts (λ f. valueIn s))) (putIns t (parts (λ f. valueIn s)) ws) ws) ws
+  set-fixed : (x : Target) → targetOf (layout k .status) (walkOf ws 0) ≡ x → setOn s ws ≡ settled x (λ n. fitted (fits t (numbersSet s)) (putIns t (numbersSet s) ws) ws) ws
   set-fixed (T.Refused r) e = set-refused k s (is-own k s fixed t f) ws e
   set-fixed (T.Packets n) e = own-fixed (n .0) (set-own k s (is-own k s fixed t f) ws e)
 
   -- the numbers in the slots from slot i on
-  pub set-slots : (i : ℕ) (xs : List ℕ) → fits t (parts (λ f. valueIn s)) ≡ fitFrom (layout k .fields) i xs → putIns t (parts (λ f. valueIn s)) ws ≡ putFrom (layout k .fields) i xs ws → setOn s ws ≡ slotsOn k i xs ws
+  pub set-slots : (i : ℕ) (xs : List ℕ) → fits t (numbersSet s) ≡ fitFrom (layout k .fields) i xs → putIns t (numbersSet s) ws ≡ putFrom (layout k .fields) i xs ws → setOn s ws ≡ slotsOn k i xs ws
   unfolding slotsOn
   set-slots i xs a p = rw (← a, ← p) (set-fixed _ refl)
 
@@ -139,6 +139,6 @@ module _ (k : Kind) (s : Setting) (t : List (Slot Part)) (f : facts k s ≡ plai
 abbrev pub one : Kind → ℕ → List (Slot Part)
 one k i = slotAt (layout k .fields) i ∷ []
 
-pub set-slot : (k : Kind) (s : Setting) (i v : ℕ) → facts k s ≡ plain fixed (one k i) → parts (λ f. valueIn s) (slotAt (layout k .fields) i .key) ≡ v → (ws : List ℕ) → setOn s ws ≡ slotOn k i v ws
+pub set-slot : (k : Kind) (s : Setting) (i v : ℕ) → facts k s ≡ plain fixed (one k i) → numbersSet s (slotAt (layout k .fields) i .key) ≡ v → (ws : List ℕ) → setOn s ws ≡ slotOn k i v ws
 unfolding slotOn placeOn fits putIns
-set-slot k s i v f e ws = rw (← e, ← both-alone (ltb (parts (λ f. valueIn s) (slotAt (layout k .fields) i .key)) (2 ^ slotAt (layout k .fields) i .span))) (set-fixed k s (one k i) f ws _ refl)
+set-slot k s i v f e ws = rw (← e, ← both-alone (ltb (numbersSet s (slotAt (layout k .fields) i .key)) (2 ^ slotAt (layout k .fields) i .span))) (set-fixed k s (one k i) f ws _ refl)

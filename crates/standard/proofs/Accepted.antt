@@ -12,7 +12,7 @@ use Rattle.utf8.specs.Utf8.{Valid, firstBad}
 use Rattle.utf8.proofs.Valid.{good-valid}
 use Rattle.text.specs.Octets.{needed}
 use Rattle.kinds.specs.Fields.{Setting, fieldIn, valueIn, textIn}
-use Rattle.kinds.specs.Layout.{Part, Body, Row, capacityIn, slotsOf, parts}
+use Rattle.kinds.specs.Layout.{Part, Body, Row, capacityIn, slotsOf, parts, numbersSet}
 use Rattle.records.specs.declared.answers.Answer.the-variants as A
 use Rattle.records.specs.Settings.{tooLarge}
 use Rattle.records.proofs.Records.{refused-done}
@@ -21,7 +21,7 @@ use Rattle.standard.specs.Words.{missing, neededBy, answerTo}
 use Rattle.standard.proofs.Rules.{not-bad}
 
 pub record Accepted (b : Body) (t : List (Slot Part)) (room : ℕ) (s : Setting) : Type 0 where
-  pub numbers : fits (slotsOf (fieldIn s) t) (parts (λ f. valueIn s)) ≡ true
+  pub numbers : fits (slotsOf (fieldIn s) t) (numbersSet s) ≡ true
   pub valid : Valid (textIn s)
   pub most : needed (capacityIn b) (length (textIn s)) ≤ 64
   pub inside : needed (capacityIn b) (length (textIn s)) ≤ room

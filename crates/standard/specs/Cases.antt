@@ -41,6 +41,17 @@ named t = Setting.text Text.endpoint-name t ∷ []
 abbrev block : ℕ → List ℕ → List Setting
 block b t = Setting.number Number.function-block b ∷ Setting.text Text.function-block-name t ∷ []
 
+-- the settings of case 11
+abbrev info : List Setting
+info =
+    Setting.number Number.info-version-major 1
+    ∷ Setting.number Number.info-version-minor 1
+    ∷ Setting.flag Flag.static-function-blocks true
+    ∷ Setting.number Number.number-of-function-blocks 4
+    ∷ Setting.flag Flag.supports-midi2-protocol true
+    ∷ Setting.flag Flag.supports-midi1-protocol true
+    ∷ []
+
 abbrev refusal : ℕ → ℕ → Said
 refusal n p = record { refusal = n; place = p; values = [] }
 
@@ -61,6 +72,6 @@ pub record Twelve : Type 0 where
   pub case9 : (saidRead (readOf (packets 1 (0xF003C300 ∷ 0xA9000000 ∷ []))) ≡ accepted (0x03 ∷ 1 ∷ [])) × (textAt K.EndpointName (packets 1 (0xF003C300 ∷ 0xA9000000 ∷ [])) ≡ 0xC3 ∷ 0xA9 ∷ [])
   pub case10 : saidRead (readOf (packets 1 (0xF003C328 ∷ []))) ≡ refusal 11 0
   -- endpoint info 1.1, static, 4 blocks, both protocols
-  pub case11 : Is K.EndpointInfo 1 (Setting.number Number.info-version-major 1 ∷ Setting.number Number.info-version-minor 1 ∷ Setting.flag Flag.static-function-blocks true ∷ Setting.number Number.number-of-function-blocks 4 ∷ Setting.flag Flag.supports-midi2-protocol true ∷ Setting.flag Flag.supports-midi1-protocol true ∷ []) (packets 1 (0xF0010101 ∷ 0x84000300 ∷ [])) (0x01 ∷ 1 ∷ 1 ∷ 1 ∷ 1 ∷ 1 ∷ 1 ∷ 0 ∷ 0 ∷ 4 ∷ []) []
+  pub case11 : Is K.EndpointInfo 1 info (packets 1 (0xF0010101 ∷ 0x84000300 ∷ [])) (0x01 ∷ 1 ∷ 1 ∷ 1 ∷ 1 ∷ 1 ∷ 1 ∷ 0 ∷ 0 ∷ 4 ∷ []) []
   -- case 6 with another block number in its second packet
   pub case12 : saidRead (readOf (packets 2 ((0xF4120561 ∷ full) ++ 0xFC120661 ∷ []))) ≡ refusal 8 1

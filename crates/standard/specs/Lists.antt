@@ -33,11 +33,14 @@ abbrev pub isDone : Answer → Bool
 isDone A.Done = true
 isDone (A.Refused r) = false
 
+-- a field's value after a setting: the new one if the setting is of this field and accepted
+abbrev pub valueAfter : Kind → ℕ → Setting → Field → List ℕ → List ℕ
+valueAfter k room s f v = pick (both (isDone (answerTo (layout k) room s)) (same f (fieldIn s))) (valueIn s) v
+
 -- the last accepted value of a field; v if there is none
 unfoldable pub lastAccepted : Kind → ℕ → Field → List ℕ → List Setting → List ℕ
 lastAccepted k room f v [] = v
-lastAccepted k room f v (s ∷ ss) =
-    lastAccepted k room f (pick (both (isDone (answerTo (layout k) room s)) (same f (fieldIn s))) (valueIn s) v) ss
+lastAccepted k room f v (s ∷ ss) = lastAccepted k room f (valueAfter k room s f v) ss
 
 -- the elements for one field, in order
 unfoldable pub onlyField : {A : Type 0} → (A → Field) → Field → List A → List A

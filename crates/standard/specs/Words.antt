@@ -21,7 +21,7 @@ use Rattle.records.specs.declared.answers.Walked.the-variants as W
 use Rattle.records.specs.declared.answers.Answer.{Answer}
 use Rattle.records.specs.declared.answers.Answer.the-variants as A
 use Rattle.kinds.specs.Fields.{Field, Setting, fieldIn, valueIn, textIn, start}
-use Rattle.kinds.specs.Layout.{Part, Body, fixed, texts, Row, layout, capacityIn, kindOf, hasText, slotsOf, isText, parts, valuesIn}
+use Rattle.kinds.specs.Layout.{Part, Body, fixed, texts, Row, layout, capacityIn, kindOf, hasText, slotsOf, isText, parts, valuesIn, numbersSet}
 use Rattle.records.specs.Records.{kindIn, packetsIn, valuesOf}
 use Rattle.records.specs.Settings.{lacks, tooLarge}
 use Rattle.standard.specs.Heads.{headWord, packetsOf}
@@ -101,25 +101,27 @@ answerTo r room s =
 
 -- the field's slots put into a packet
 abbrev putSetting : Row → Setting → List ℕ → List ℕ
-putSetting r s ws = putAll (slotsOf (fieldIn s) (r .fields)) (parts (λ f. valueIn s)) ws
+putSetting r s ws = putAll (slotsOf (fieldIn s) (r .fields)) (numbersSet s) ws
 
 -- an accepted setting on the message of n packets at position 0: setting the text keeps the fields of the head, setting a field of the head changes each of the n packets
 unfoldable pub actIn : Body → Row → ℕ → Setting → List ℕ → List ℕ
 actIn fixed r n s ws = putSetting r s ws
 actIn (texts t from) r n s ws =
     pick (isText (fieldIn s) (texts t from)) (textWritten r (capacityIn (texts t from)) (valuesIn (r .fields) ws) (textIn s) ws)
-    (eachFirst n (putWord (slotsOf (fieldIn s) (r .fields)) (parts (λ f. valueIn s))) ws)
+    (eachFirst n (putWord (slotsOf (fieldIn s) (r .fields)) (numbersSet s)) ws)
 
 -- the words after a setting with this answer
 abbrev pub afterAnswer : Answer → Row → ℕ → Setting → List ℕ → List ℕ
 afterAnswer A.Done r n s ws = actIn (r .body) r n s ws
 afterAnswer (A.Refused why) r n s ws = ws
 
+abbrev outcomeOf : Answer → Row → ℕ → Setting → List ℕ → Outcome
+outcomeOf a r n s ws = outcome a (afterAnswer a r n s ws)
+
 -- a setting on the message m at position 0
 unfoldable pub setMessage : Message → Setting → List ℕ → Outcome
 setMessage m s ws =
-    outcome (answerTo (layout (kindIn m)) (packetsOf ws) s)
-    (afterAnswer (answerTo (layout (kindIn m)) (packetsOf ws) s) (layout (kindIn m)) (packetsIn m) s ws)
+    outcomeOf (answerTo (layout (kindIn m)) (packetsOf ws) s) (layout (kindIn m)) (packetsIn m) s ws
 
 -- a refusal of the walk at position 0 comes first; another type there is refusal 4 at place 0, an empty slice refusal 1
 abbrev pub setWalked : Walked → Setting → List ℕ → Outcome

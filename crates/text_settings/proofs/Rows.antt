@@ -17,7 +17,7 @@ use Rattle.text.specs.Written.{eachFirst}
 use Rattle.kinds.specs.declared.kind.Kind.{Kind}
 use Rattle.kinds.specs.declared.refusal.Refusal.the-variants.{TooManyPackets, NotUtf8, NoRoom}
 use Rattle.kinds.specs.Fields.{Text, Field, Setting, fieldIn, valueIn, same, decided}
-use Rattle.kinds.specs.Layout.{Part, Row, Body, fixed, texts, layout, capacityIn, capacityOf, hasText, isText, slotsOf, parts, valuesIn}
+use Rattle.kinds.specs.Layout.{Part, Row, Body, fixed, texts, layout, capacityIn, capacityOf, hasText, isText, slotsOf, parts, valuesIn, numbersSet}
 use Rattle.kinds.proofs.Rows.{everyKind}
 use Rattle.records.specs.declared.answers.Answer.{Answer}
 use Rattle.records.specs.declared.answers.Answer.the-variants as A
@@ -112,7 +112,7 @@ narrow-one : (s : Slot Part) → bitsWithin 32 (s ∷ []) ≡ true → s .at + s
 unfolding bitsWithin
 narrow-one s e = leb-true _ _ (both-left _ _ e)
 
-each-acts : (b : Body) (r : Row) (s : Setting) (n : ℕ) (ws : List ℕ) → hasText b ≡ true → isText (fieldIn s) b ≡ false → actIn b r n s ws ≡ eachFirst n (putWord (slotsOf (fieldIn s) (r .fields)) (parts (λ f. valueIn s))) ws
+each-acts : (b : Body) (r : Row) (s : Setting) (n : ℕ) (ws : List ℕ) → hasText b ≡ true → isText (fieldIn s) b ≡ false → actIn b r n s ws ≡ eachFirst n (putWord (slotsOf (fieldIn s) (r .fields)) (numbersSet s)) ws
 unfolding actIn
 each-acts fixed r s n ws h i = true-false (sym h)
 each-acts (texts t from) r s n ws h i = rw i
@@ -123,13 +123,13 @@ module _ (k : Kind) (s : Setting) (i : ℕ) (ws : List ℕ) (f : facts k s ≡ p
 
   -- the number that is set
   abbrev value : ℕ
-  value = parts (λ f. valueIn s) (slot .key)
+  value = numbersSet s (slot .key)
 
   each-act : (n : ℕ) → n ≤ packetsOf ws → value < 2 ^ slot .span → actIn (layout k .body) (layout k) n s ws ≡ putEach n (slot .at) (slot .span) value ws
   each-act n l h =
       let w = narrow-one slot (is-narrow k s (layout k .body) (one k i) f) in
       each-acts (layout k .body) (layout k) s n ws has other
-      ∙ rw (are-slots k s (layout k .body) (one k i) f, fun-ext (put-one slot (parts (λ f. valueIn s)) first)) (sym (each-put n (slot .at) (slot .span) value ws l w h))
+      ∙ rw (are-slots k s (layout k .body) (one k i) f, fun-ext (put-one slot (numbersSet s) first)) (sym (each-put n (slot .at) (slot .span) value ws l w h))
 
   own-each : (n : ℕ) → Own k n s ws → setOn s ws ≡ eachPut n slot value ws
   unfolding fits

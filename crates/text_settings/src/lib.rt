@@ -3,4 +3,4 @@ pub mod endpoint_name;
 pub mod function_block_name;
 pub mod product_instance_id;
 mod target;
-pub mod texts;
+mod texts;

@@ -14,14 +14,14 @@ use text::packets::packets_needed;
 use text_check::check_utf8;
 use utf8::Utf8;
 
-pub enum Plan {
+pub(crate) enum Plan {
     // How many packets the text takes.
     Needs(PacketNumber),
     Refused(Refusal),
 }
 
 // Refusals 3 and 14, or the packets needed for this many bytes.
-pub fn find_room(bytes: usize, capacity: usize, room: PacketNumber) -> Plan
+fn find_room(bytes: usize, capacity: usize, room: PacketNumber) -> Plan
     ensures { λ r. ⌜ r ≡ roomOf (needed capacity bytes) (room .0) ⌝ }
 {
     let needed = packets_needed(bytes, capacity);
@@ -36,7 +36,7 @@ pub fn find_room(bytes: usize, capacity: usize, room: PacketNumber) -> Plan
 }
 
 // Refusals 11, 3 and 14, or the packets that the text needs.
-pub fn plan_text(text: &[u8], capacity: usize, room: PacketNumber) -> Plan
+fn plan_text(text: &[u8], capacity: usize, room: PacketNumber) -> Plan
     ensures { λ r. ⌜ r ≡ planOf (now (text .entry)) capacity (room .0) ⌝ }
 {
     match check_utf8(text) {
