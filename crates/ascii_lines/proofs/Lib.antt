@@ -2,3 +2,4 @@ pub mod Page
 pub mod Numbers
 pub mod Room
 pub mod FromLast
+pub mod Told

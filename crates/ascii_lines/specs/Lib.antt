@@ -1,3 +1,4 @@
 pub mod Ascii
 pub mod Numbers
 pub mod Page
+pub mod Told

@@ -5,3 +5,4 @@ pub mod Accepted
 pub mod Computed
 pub mod Back
 pub mod OneNumber
+pub mod Told

@@ -10,3 +10,4 @@ pub mod Settings
 pub mod Writing
 pub mod Outcomes
 pub mod Crossing
+pub mod Said

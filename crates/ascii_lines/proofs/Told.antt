@@ -1,0 +1,23 @@
+-- The examples, computed.
+use mathlib.Core.Path.{refl}
+use Rattle.laws.specs.Lists.{each}
+use Rattle.ascii_lines.specs.Numbers.{decimalIn, decimal, hexOrDash}
+use Rattle.ascii_lines.specs.Told.{LinesTold}
+
+pub lines-told : LinesTold
+unfolding each decimalIn decimal hexOrDash
+lines-told =
+    record {
+      nought = refl;
+      nine = refl;
+      ten = refl;
+      hundreds = refl;
+      largest-pair = refl;
+      low = refl;
+      high = refl;
+      letters = refl;
+      last-letters = refl;
+      spaced = refl;
+      text = refl;
+      empty = refl;
+    }
