@@ -2,3 +2,4 @@ pub mod Fields
 pub mod Rows
 pub mod Codes
 pub mod Homes
+pub mod Told

@@ -14,7 +14,7 @@ use Rattle.slots.proofs.Tables.{words-below-more}
 use Rattle.kinds.specs.declared.kind.Kind.{Kind}
 use Rattle.kinds.specs.declared.kind.Kind.the-variants as K
 use Rattle.kinds.specs.declared.kind.Known.the-variants.{Is}
-use Rattle.kinds.specs.Fields.{Text, start, partOf}
+use Rattle.kinds.specs.Fields.{Flag, Number, Pair, Field, Text, start, partOf}
 use Rattle.kinds.specs.Layout.{Part, Body, fixed, texts, Row, layout, capacityIn, mostIn, kinds, kindOf, among, parts, headSlot, textSlot, right, rightBody, discoveryFields, infoFields, identityFields, blockFields, nameFields}
 
 -- a kind's status is its own
@@ -130,15 +130,76 @@ pub start-fits : (k : Kind) → fits (layout k .fields) (parts start) ≡ true
 unfolding everyKind fits layout both start partOf
 start-fits k = at-kind (λ j. fits (layout j .fields) (parts start)) refl k
 
--- the masks that the slots give are those of the Rust's schemas, in the table's order
-abbrev masks : List (Slot Part) → List ℕ
-masks t = map mask t
+-- ---- as in the Rust: each field, its word and its mask there, as the schemas and properties of ump_stream/*.rs have them, in the table's order
+-- a field (or one of its numbers), its word and its mask
+record Line : Type 0 where
+  field : Field
+  index : ℕ
+  word : ℕ
+  mask : ℕ
 
-pub as-in-the-rust :
-    (masks discoveryFields ≡ 0x0000_FF00 ∷ 0x0000_00FF ∷ 0b0_0001 ∷ 0b0_0010 ∷ 0b0_0100 ∷ 0b0_1000 ∷ 0b1_0000 ∷ [])
-    × (masks infoFields ≡ 0x0000_FF00 ∷ 0x0000_00FF ∷ 0x8000_0000 ∷ 0b10_0000_0000 ∷ 0b01_0000_0000 ∷ 0b10 ∷ 0b01 ∷ 0x7F00_0000 ∷ [])
-    × (masks identityFields ≡ 0x007F_0000 ∷ 0x0000_7F00 ∷ 0x0000_007F ∷ 0x7F00_0000 ∷ 0x007F_0000 ∷ 0x0000_7F00 ∷ 0x0000_007F ∷ 0x7F00_0000 ∷ 0x007F_0000 ∷ 0x0000_7F00 ∷ 0x0000_007F ∷ [])
-    × (masks blockFields ≡ 0b1000_0000_0000_0000 ∷ 0x0000_7F00 ∷ 0b11_0000 ∷ 0b00_1100 ∷ 0b00_0011 ∷ 0x0F00_0000 ∷ 0x00FF_0000 ∷ 0x0000_FF00 ∷ 0x0000_00FF ∷ [])
-    × (masks nameFields ≡ 0x0000_FF00 ∷ [])
+abbrev line : Field → ℕ → ℕ → ℕ → Line
+line f i w m = record { field = f; index = i; word = w; mask = m }
+
+abbrev lines : List (Slot Part) → List Line
+lines t = map (λ s. line (s .key .field) (s .key .index) (s .word) (mask s)) t
+
+abbrev flag : Flag → ℕ → ℕ → Line
+flag f w m = line (Field.flag f) 0 w m
+
+abbrev number : Number → ℕ → ℕ → Line
+number n w m = line (Field.number n) 0 w m
+
+pub record AsInTheRust : Type 0 where
+  pub endpoint-discovery :
+      lines discoveryFields ≡ number Number.discovery-version-major 0 0x0000_FF00
+      ∷ number Number.discovery-version-minor 0 0x0000_00FF
+      ∷ flag Flag.request-endpoint-info 1 0b0_0001
+      ∷ flag Flag.request-device-identity 1 0b0_0010
+      ∷ flag Flag.request-endpoint-name 1 0b0_0100
+      ∷ flag Flag.request-product-instance-id 1 0b0_1000
+      ∷ flag Flag.request-stream-configuration 1 0b1_0000
+      ∷ []
+  pub endpoint-info :
+      lines infoFields ≡ number Number.info-version-major 0 0x0000_FF00
+      ∷ number Number.info-version-minor 0 0x0000_00FF
+      ∷ flag Flag.static-function-blocks 1 0x8000_0000
+      ∷ flag Flag.supports-midi2-protocol 1 0b10_0000_0000
+      ∷ flag Flag.supports-midi1-protocol 1 0b01_0000_0000
+      ∷ flag Flag.supports-receiving-jr-timestamps 1 0b10
+      ∷ flag Flag.supports-sending-jr-timestamps 1 0b01
+      ∷ number Number.number-of-function-blocks 1 0x7F00_0000
+      ∷ []
+  -- 0x007F_7F7F of word 1 as septets 1, 2, 3, and 0x7F7F_7F7F of word 3 as septets 0 to 3; the order of a pair's septets is the standard's
+  pub device-identity :
+      lines identityFields ≡ line Field.device-manufacturer 0 1 0x007F_0000
+      ∷ line Field.device-manufacturer 1 1 0x0000_7F00
+      ∷ line Field.device-manufacturer 2 1 0x0000_007F
+      ∷ line (Field.pair Pair.device-family) 0 2 0x7F00_0000
+      ∷ line (Field.pair Pair.device-family) 1 2 0x007F_0000
+      ∷ line (Field.pair Pair.device-family-model-number) 0 2 0x0000_7F00
+      ∷ line (Field.pair Pair.device-family-model-number) 1 2 0x0000_007F
+      ∷ line Field.software-version 0 3 0x7F00_0000
+      ∷ line Field.software-version 1 3 0x007F_0000
+      ∷ line Field.software-version 2 3 0x0000_7F00
+      ∷ line Field.software-version 3 3 0x0000_007F
+      ∷ []
+  -- hint, port and direction are crumbs 13, 14 and 15 of word 0
+  pub function-block-info :
+      lines blockFields ≡ flag Flag.active 0 0b1000_0000_0000_0000
+      ∷ number Number.function-block-number 0 0x0000_7F00
+      ∷ line Field.ui-hint 0 0 0b11_0000
+      ∷ line Field.midi1-port 0 0 0b00_1100
+      ∷ line Field.direction 0 0 0b00_0011
+      ∷ number Number.first-group 1 0x0F00_0000
+      ∷ number Number.number-of-groups-spanned 1 0x00FF_0000
+      ∷ number Number.midi-ci-version 1 0x0000_FF00
+      ∷ number Number.max-number-of-midi-ci-streams 1 0x0000_00FF
+      ∷ []
+  -- octet 2 of word 0
+  pub function-block-name : lines nameFields ≡ number Number.function-block 0 0x0000_FF00 ∷ []
+
+pub as-in-the-rust : AsInTheRust
 unfolding map mask
-as-in-the-rust = (refl, refl, refl, refl, refl)
+as-in-the-rust =
+    record { endpoint-discovery = refl; endpoint-info = refl; device-identity = refl; function-block-info = refl; function-block-name = refl }

@@ -2,3 +2,4 @@ pub mod Refusals
 pub mod Choices
 pub mod Fields
 pub mod Layout
+pub mod Told

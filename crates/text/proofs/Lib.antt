@@ -6,3 +6,4 @@ pub mod Place
 pub mod Rewritten
 pub mod BigEndian
 pub mod First
+pub mod Told

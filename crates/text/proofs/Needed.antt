@@ -1,12 +1,10 @@
 -- Packets needed: they hold the text, fewer would not, and the code counts them right. Proved by division with remainder.
 use Prim.Native.Nat.{ℕ, zero, suc, _+_, _-_, _*_, _/_, _<_, _≤_}
 use mathlib.Core.Path.{_≡_, ap}
-use mathlib.Core.Bool.{Bool, true, false}
 use native.Mathlib.Omega.{arith}
 use native.Mathlib.Nat.{div-add-mod', mod-lt, div-lt-iff-lt-mul, div-zero, div-le-self, add-div-right, div-eq-of-lt}
 use lib.Dec.{ltb, leb, eqb}
 use borrow.Author.Tests.{ne-eqb, eqb-false}
-use Rattle.laws.specs.Pick.{pick}
 use Rattle.laws.proofs.Pick.{split}
 use Rattle.counts.specs.Counts.{packet}
 use Rattle.text.specs.Octets.{needed, dueFormat}
@@ -71,10 +69,7 @@ module _ (cap bytes : ℕ) where
 -- ---- a format is one of four
 pub due-format-small : (n p : ℕ) → dueFormat n p < 4
 unfolding dueFormat
-due-format-small n p = go (leb n 1) (eqb p 0) (ltb p (n - 1))
-  where
-    go : (t u v : Bool) → pick t 0 (pick u 1 (pick v 2 3)) < 4
-    go true u v = omega arith
-    go false true v = omega arith
-    go false false true = omega arith
-    go false false false = omega arith
+due-format-small n p =
+    split (leb n 1) (λ a. rw a (omega arith)) (λ a.
+    split (eqb p 0) (λ b. rw (a, b) (omega arith)) (λ b.
+    split (ltb p (n - 1)) (λ c. rw (a, b, c) (omega arith)) (λ c. rw (a, b, c) (omega arith))))

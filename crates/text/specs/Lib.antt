@@ -4,3 +4,4 @@ pub mod Bytes
 pub mod Place
 pub mod Handed
 pub mod BigEndian
+pub mod Told

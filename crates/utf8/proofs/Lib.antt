@@ -4,3 +4,4 @@ pub mod Small
 pub mod Ones
 pub mod Steps
 pub mod Same
+pub mod Told

@@ -1,0 +1,47 @@
+-- UTF-8 is as told. Proved by computation.
+use mathlib.Core.Path.{refl}
+use Rattle.laws.specs.Lists.{map, nonzero}
+use Rattle.utf8.specs.Utf8.{dueAfter, firstBad}
+use Rattle.utf8.specs.Scan.{leadingOnes, lengthByOnes, charLength, neverFirst}
+use Rattle.utf8.specs.Told.{Utf8Told}
+
+pub utf8-told : Utf8Told
+unfolding map nonzero dueAfter firstBad leadingOnes lengthByOnes charLength neverFirst
+utf8-told =
+    record {
+      empty = refl;
+      one = refl;
+      not-one = refl;
+      two = refl;
+      not-two = refl;
+      three-e0 = refl;
+      not-three-e0 = refl;
+      three-e1 = refl;
+      not-three-e1 = refl;
+      three-ed = refl;
+      not-three-ed = refl;
+      three-ee = refl;
+      not-three-ee = refl;
+      four-f0 = refl;
+      not-four-f0 = refl;
+      four-f1 = refl;
+      not-four-f1 = refl;
+      four-f4 = refl;
+      not-four-f4 = refl;
+      never = refl;
+      cut = refl;
+      place = refl;
+      place-cut = refl;
+      all-good = refl;
+      zero-given = refl;
+      zero-alone = refl;
+      zero-skipped = refl;
+      place-skipped = refl;
+      no-ones = refl;
+      one-one = refl;
+      two-ones = refl;
+      three-ones = refl;
+      four-ones = refl;
+      more-ones = refl;
+      barred = refl;
+    }
