@@ -4,7 +4,6 @@ use mathlib.Core.Path.{_≡_, refl, sym, ap}
 use mathlib.Core.Bool.{not}
 use mathlib.Core.List.{List, [], _∷_, _++_}
 use native.Mathlib.Omega.{arith}
-use lib.Dec.{eqb}
 use borrow.Author.Tests.{ne-eqb}
 use Rattle.laws.proofs.Pick.{never, picked, past}
 use Rattle.slots.specs.Slots.{fits}
