@@ -43,7 +43,7 @@ module _ (k : Kind) (ws : List ℕ) (l : 4 ≤ length ws) where
   unfolding fresh encode
   fresh-encode = in-fresh (layout k) ws l (layout k .body) (row-right k) (start-fits k)
 
-  encode-length : (v : Field → List ℕ) → length (encode k ws v) ≡ length ws
+  pub encode-length : (v : Field → List ℕ) → length (encode k ws v) ≡ length ws
   unfolding encode
   encode-length v = in-length (layout k) ws l (layout k .body) (row-right k) v
 

@@ -7,6 +7,7 @@ pub mod Bodies
 pub mod Encode
 pub mod Lists
 pub mod Settings
+pub mod Clauses
 pub mod Writing
 pub mod Outcomes
 pub mod Crossing

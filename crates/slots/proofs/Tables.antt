@@ -5,6 +5,7 @@ use mathlib.Core.Bool.{Bool, true, false}
 use mathlib.Core.List.{List, [], _∷_}
 use native.Mathlib.Omega.{arith}
 use lib.ListN.{getD}
+use lib.Seq.{getD-set-other}
 use borrow.Author.Tests.{ltb-true, lt-ltb}
 use Rattle.laws.specs.Pick.{pick}
 use Rattle.laws.specs.Bits.{fieldOf}
@@ -20,6 +21,14 @@ words-below-more m n [] h l = refl
 words-below-more m n (s ∷ ss) h l =
     let a : s .word < m = ltb-true _ _ (both-left _ _ l) in
     both-true _ _ (lt-ltb (s .word) n (omega arith)) (words-below-more m n ss h (both-right _ _ l))
+
+-- a table within the first n words changes no word after them
+pub put-beyond : {K : Type 0} (n : ℕ) (t : List (Slot K)) (v : K → ℕ) (ws : List ℕ) (i : ℕ) → wordsBelow n t ≡ true → n ≤ i → getD (putAll t v ws) i 0 ≡ getD ws i 0
+unfolding putAll wordsBelow put
+put-beyond n [] v ws i l h = refl
+put-beyond n (s ∷ ss) v ws i l h =
+    let a : s .word < n = ltb-true _ _ (both-left _ _ l) in
+    getD-set-other (putAll ss v ws) (s .word) i _ 0 (λ e. omega arith) ∙ put-beyond n ss v ws i (both-right _ _ l) h
 
 -- a table reads the same from words that agree in its range
 pub reads-words : {K : Type 0} (n : ℕ) (t : List (Slot K)) (v : K → ℕ) (a b : List ℕ) → wordsBelow n t ≡ true → ((i : ℕ) → i < n → getD a i 0 ≡ getD b i 0) → reads t v a → reads t v b

@@ -2,6 +2,7 @@ pub mod Heads
 pub mod Reading
 pub mod Formed
 pub mod Walk
+pub mod Live
 pub mod Packet
 pub mod Place
 pub mod Words

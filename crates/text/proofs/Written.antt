@@ -4,7 +4,7 @@ use mathlib.Core.Path.{_≡_, _∙_}
 use mathlib.Core.List.{List}
 use native.Mathlib.Omega.{arith}
 use lib.ListN.{length, getD}
-use borrow.Author.Tests.{lt-ltb, le-ltb}
+use borrow.Author.Tests.{lt-ltb, le-ltb, ne-eqb}
 use Rattle.laws.proofs.Lists.{length-upTo, upTo-below, upTo-rest}
 use Rattle.text.specs.Octets.{dueFormat}
 use Rattle.text.specs.Written.{headOctet, octetAt, wordIn, wordNew, wholeWords, written, blank}
@@ -56,3 +56,12 @@ length-blank head ws = length-upTo _ _ ws
 pub blank-first : (head : ℕ) (ws : List ℕ) → 4 ≤ length ws → getD (blank head ws) 0 0 ≡ head
 unfolding blank
 blank-first head ws l = upTo-below _ _ ws 0 (omega arith) (omega arith)
+
+-- its other words: zero in the whole packets, kept after them
+pub blank-zero : (head : ℕ) (ws : List ℕ) (k : ℕ) → 1 ≤ k → k < wholeWords ws → getD (blank head ws) k 0 ≡ 0
+unfolding blank
+blank-zero head ws k h l = upTo-below _ _ ws k l (omega arith) ∙ rw (ne-eqb k 0 (λ e. omega arith))
+
+pub blank-rest : (head : ℕ) (ws : List ℕ) (k : ℕ) → wholeWords ws ≤ k → getD (blank head ws) k 0 ≡ getD ws k 0
+unfolding blank
+blank-rest head ws k h = upTo-rest _ _ ws k h

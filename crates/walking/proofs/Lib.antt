@@ -3,3 +3,4 @@ pub mod FramedRead
 pub mod Other
 pub mod Stands
 pub mod Visits
+pub mod Live

@@ -91,6 +91,10 @@ only (v ∷ vs) (suc most) ws pos t a h =
 pub visits-only : (vs : List Visit) (ws : List ℕ) → Tiles 0 vs (length ws) → Answers ws vs → vs ≡ visitsOf ws
 visits-only vs ws t a = only vs (length ws) ws 0 t a (omega arith)
 
+-- enough of them are all of them
+pub visits-enough : (ws : List ℕ) (pos m n : ℕ) → pos ≤ length ws → length ws - pos ≤ m → length ws - pos ≤ n → visits m ws pos ≡ visits n ws pos
+visits-enough ws pos m n h a b = only (visits m ws pos) n ws pos (tiles m ws pos h a) (answers m ws pos) b
+
 -- ---- a word is in the span of one visit
 covers-in : (i : ℕ) (v : Visit) → v .position ≤ i → i < nextIn v → covers i v ≡ true
 unfolding covers

@@ -1,3 +1,4 @@
 pub mod Stands
 pub mod Visits
+pub mod Live
 pub mod Other
