@@ -219,7 +219,12 @@ typedef struct frayedbin_step_answer {
 /* Reads a slice that should be one message. */
 frayedbin_record_answer frayedbin_read(const uint32_t *words, size_t length);
 
-/* Finds what stands at a word position of a stream; go on at .next until the end. */
+/* Finds what stands at a word position of a stream; go on at .next until the end.
+ *
+ * Where words still arrive, the end and refusal 1 are not final: wait at the position that was
+ * given, not at .next, and walk from there again when words have been appended. Every other answer
+ * is final: appended words do not change it. The words before the position may be dropped, and the
+ * position is then 0. */
 frayedbin_walk_answer frayedbin_walk(const uint32_t *words, size_t length, size_t position);
 
 /* Gives the first four words, missing ones zero, and their format; refuses no words (1) and

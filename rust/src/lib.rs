@@ -21,8 +21,9 @@
 //! # Ok::<(), Refusal>(())
 //! ```
 //!
-//! A stream is walked with [`Messages`], a capture listed with [`list`]. A [`Record`] is what a
-//! message says apart from its words, and settings can be chained on it.
+//! A stream is walked with [`Messages`], also while its words arrive, a capture listed with
+//! [`list`]. A [`Record`] is what a message says apart from its words, and settings can be chained
+//! on it.
 //!
 //! # Linking
 //!

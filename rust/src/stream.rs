@@ -115,6 +115,14 @@ pub enum Found<'a> {
     Refused(Refusal),
 }
 
+impl Found<'_> {
+    /// Whether it stays the same when more words come: all but refusal 1, too few words, does.
+    #[must_use]
+    pub fn is_final(&self) -> bool {
+        !matches!(self, Found::Refused(Refusal::TooFewWords))
+    }
+}
+
 /// The messages of a stream: for each its word position, and what stands there.
 ///
 /// A refusal ends nothing: the walk goes on after what was refused.
@@ -128,6 +136,34 @@ pub enum Found<'a> {
 /// assert!(matches!(messages.next(), Some((1, Found::Message(UmpStream::FunctionBlockInfo(_))))));
 /// assert_eq!(messages.next(), Some((5, Found::Refused(Refusal::BadDirection))));
 /// assert_eq!(messages.next(), None);
+/// ```
+///
+/// Words that still arrive are walked as far as the answers are final. Those after the last final
+/// answer are kept, and walked again when more have come:
+///
+/// ```
+/// use frayedbin::{Found, Messages, UmpStream};
+///
+/// let arriving: [&[u32]; 3] = [&[0x10F8_0000, 0xF403_4162], &[0, 0, 0], &[0xFC03_6300, 0, 0, 0]];
+/// let mut kept = Vec::new();
+/// let mut names = Vec::new();
+/// for words in arriving {
+///     kept.extend_from_slice(words);
+///     let mut messages = Messages::new(&kept);
+///     let mut waits_at = 0;
+///     while let Some((_, found)) = messages.next() {
+///         if !found.is_final() {
+///             break;
+///         }
+///         if let Found::Message(UmpStream::EndpointName(name)) = found {
+///             names.push(name.name());
+///         }
+///         waits_at = messages.position();
+///     }
+///     kept.drain(..waits_at);
+/// }
+/// assert_eq!(names, ["Abc"]);
+/// assert!(kept.is_empty());
 /// ```
 #[derive(Clone, Debug)]
 #[must_use = "iterators are lazy"]

@@ -121,6 +121,23 @@ fn a_walk_starts_and_ends_anywhere() {
     assert_eq!(Messages::at(&SAMPLE, usize::MAX).next(), None);
 }
 
+/// Whatever has arrived of a stream, its final answers are the first ones of the whole.
+#[test]
+fn words_that_arrive_change_no_final_answer() {
+    let mut words = SAMPLE.to_vec();
+    words.extend([0xF403_4162, 0, 0, 0, 0xFC03_6300, 0, 0, 0]);
+    let whole: Vec<_> = Messages::new(&words).collect();
+    for length in 0..=words.len() {
+        let settled: Vec<_> = Messages::new(&words[..length])
+            .take_while(|(_, found)| found.is_final())
+            .collect();
+        assert_eq!(settled, whole[..settled.len()]);
+        let arrived = [1, 5, 9, 13, 21].iter().filter(|end| **end <= length);
+        assert_eq!(settled.len(), arrived.count());
+    }
+    assert!(Found::Refused(Refusal::TooManyPackets).is_final());
+}
+
 /// A chain in which packet 64 is still due is refused, even with no words left.
 #[test]
 fn sixty_four_packets_and_no_end() {

@@ -60,8 +60,8 @@ blank-first head ws l = upTo-below _ _ ws 0 (omega arith) (omega arith)
 -- its other words: zero in the whole packets, kept after them
 pub blank-zero : (head : ℕ) (ws : List ℕ) (k : ℕ) → 1 ≤ k → k < wholeWords ws → getD (blank head ws) k 0 ≡ 0
 unfolding blank
-blank-zero head ws k h l = upTo-below _ _ ws k l (omega arith) ∙ rw (ne-eqb k 0 (λ e. omega arith))
+blank-zero head ws k h l = upTo-below _ _ ws k (omega arith) (omega arith) ∙ rw (ne-eqb k 0 (λ e. omega arith))
 
 pub blank-rest : (head : ℕ) (ws : List ℕ) (k : ℕ) → wholeWords ws ≤ k → getD (blank head ws) k 0 ≡ getD ws k 0
 unfolding blank
-blank-rest head ws k h = upTo-rest _ _ ws k h
+blank-rest head ws k h = upTo-rest _ _ ws k (omega arith)
