@@ -17,11 +17,11 @@ abbrev packets : ℕ → List ℕ → List ℕ
 packets n ws = ws ++ replicate (n * 4 - length ws) 0
 
 -- n letters `a`
-abbrev letters : ℕ → List ℕ
+abbrev pub letters : ℕ → List ℕ
 letters n = replicate n 0x61
 
 -- three words full of them
-abbrev full : List ℕ
+abbrev pub full : List ℕ
 full = 0x61616161 ∷ 0x61616161 ∷ 0x61616161 ∷ []
 
 -- a fresh message in n packets that held other words before, after the settings
@@ -41,7 +41,7 @@ named t = Setting.text Text.endpoint-name t ∷ []
 abbrev block : ℕ → List ℕ → List Setting
 block b t = Setting.number Number.function-block b ∷ Setting.text Text.function-block-name t ∷ []
 
-abbrev refusal : ℕ → ℕ → Said
+abbrev pub refusal : ℕ → ℕ → Said
 refusal n p = record { refusal = n; place = p; values = [] }
 
 pub record Twelve : Type 0 where
