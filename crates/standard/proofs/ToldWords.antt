@@ -120,10 +120,10 @@ unfolding both first firstFrom tabulate upTo nonzero map each get put putAll tho
 told-lists =
     record {
       all = refl;
-      discovery = refl;
-      info = refl;
-      other-flags = refl;
-      block-info = refl;
+      discovery-set = refl;
+      info-set = refl;
+      identity-set = refl;
+      block-set = refl;
       answers = refl;
       last = refl;
       last-of-two = refl;
@@ -136,10 +136,10 @@ pub told-writing : ToldWriting
 unfolding both first firstFrom tabulate upTo nonzero map each get put putAll those fits dueAfter firstBad octetOf needed dueFormat headOctet octetAt wordIn wordNew written blank eachFirst textByte allBytes decided same start partOf joined layout among held valuesIn recordOf fieldsIn lookup ruled otherField readBody readKind readOf sizeOf stepOf framePacket frameFrom frameOf framedOf otherOf walkOf fresh freshOn putWord encodeIn encode answerTo actIn setMessage setOn writeOn setAll answerAll lastAccepted onlyField
 told-writing =
     record {
-      discovery = (refl, refl);
-      info = (refl, refl);
-      identity = (refl, refl);
-      block-info = (refl, refl);
+      discovery-written = (refl, refl);
+      info-written = (refl, refl);
+      identity-written = (refl, refl);
+      block-written = (refl, refl);
       endpoint-name = (refl, refl);
       product-instance-id = (refl, refl);
       block-name = (refl, refl);

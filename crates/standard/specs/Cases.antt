@@ -7,7 +7,8 @@ use lib.ListN.{length, replicate}
 use Rattle.kinds.specs.declared.kind.Kind.{Kind}
 use Rattle.kinds.specs.declared.kind.Kind.the-variants as K
 use Rattle.kinds.specs.Fields.{Flag, Number, Text, Setting}
-use Rattle.records.specs.Answers.{Said, accepted, saidRead}
+use Rattle.records.specs.Answers.{accepted, saidRead}
+use Rattle.records.specs.Told.{refusal}
 use Rattle.standard.specs.Reading.{readOf, textAt}
 use Rattle.standard.specs.Words.{fresh}
 use Rattle.standard.specs.Lists.{setAll}
@@ -40,9 +41,6 @@ named t = Setting.text Text.endpoint-name t ∷ []
 
 abbrev block : ℕ → List ℕ → List Setting
 block b t = Setting.number Number.function-block b ∷ Setting.text Text.function-block-name t ∷ []
-
-abbrev pub refusal : ℕ → ℕ → Said
-refusal n p = record { refusal = n; place = p; values = [] }
 
 pub record Twelve : Type 0 where
   -- endpoint name: empty, `A`, fourteen and fifteen `a`

@@ -8,10 +8,10 @@ use Rattle.text.specs.declared.TextPlace.{TextPlace}
 use Rattle.text.specs.declared.Stepped.{Stepped}
 use Rattle.kinds.specs.declared.choices.Format.the-variants as F
 use Rattle.records.specs.Answers.{Said, accepted, saidPacket, saidSize}
+use Rattle.records.specs.Told.{refusal}
 use Rattle.standard.specs.Said.{saidStep}
 use Rattle.standard.specs.Packet.{packetOf, packetFormat, messageSize}
 use Rattle.standard.specs.Place.{nextByte}
-use Rattle.standard.specs.Cases.{refusal}
 use Rattle.standard.specs.ToldReading.{heads}
 
 abbrev Packs : List ℕ → Said → Type 0

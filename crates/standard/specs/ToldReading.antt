@@ -5,8 +5,8 @@ use mathlib.Core.List.{List, [], _∷_, _++_}
 use lib.ListN.{replicate}
 use Rattle.kinds.specs.declared.kind.Kind.the-variants as K
 use Rattle.records.specs.Answers.{Said, accepted, saidRead}
+use Rattle.records.specs.Told.{refusal}
 use Rattle.standard.specs.Reading.{readOf, textAt}
-use Rattle.standard.specs.Cases.{refusal}
 
 -- packets of which only the first words are shown
 abbrev pub heads : List ℕ → List ℕ

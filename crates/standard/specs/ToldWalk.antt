@@ -4,9 +4,9 @@ use mathlib.Core.Path.{_≡_}
 use mathlib.Core.List.{List, [], _∷_, _++_}
 use lib.ListN.{replicate}
 use Rattle.records.specs.Answers.{Said, accepted, saidRead, saidWalked}
+use Rattle.records.specs.Told.{refusal}
 use Rattle.standard.specs.Reading.{readOf}
 use Rattle.standard.specs.Walk.{sizeOf, walkOf}
-use Rattle.standard.specs.Cases.{refusal}
 use Rattle.standard.specs.ToldReading.{heads, startAnd}
 
 -- at a position of the words the walk says this

@@ -14,9 +14,10 @@ use Rattle.kinds.specs.Fields.{Flag, Number, Pair, Text, Field, Setting, fieldI
 use Rattle.records.specs.declared.message.Message.{Message}
 use Rattle.records.specs.declared.message.Message.the-variants as M
 use Rattle.records.specs.Answers.{Said, accepted, saidAnswer}
+use Rattle.records.specs.Told.{refusal, infoOf, discovery, info, identity, blockInfo, discoverySettings, infoSettings, identitySettings, blockSettings, blocks, group, block}
 use Rattle.standard.specs.Words.{Outcome, freshOn, setOn, writeOn}
 use Rattle.standard.specs.Lists.{SettingAnswer, setAll, answerAll, lastAccepted, onlyField}
-use Rattle.standard.specs.Cases.{refusal, letters, full}
+use Rattle.standard.specs.Cases.{letters, full}
 use Rattle.standard.specs.ToldReading.{heads}
 
 -- a call says this and leaves these words
@@ -67,15 +68,6 @@ pub record ToldFresh : Type 0 where
   pub five-fourteen : KeepsFresh 0x78 (old 3) 5
 
 -- some settings
-abbrev blocks : ℕ → Setting
-blocks n = Setting.number Number.number-of-function-blocks n
-
-abbrev group : ℕ → Setting
-group n = Setting.number Number.first-group n
-
-abbrev block : ℕ → Setting
-block n = Setting.number Number.function-block n
-
 abbrev name : List ℕ → Setting
 name t = Setting.text Text.endpoint-name t
 
@@ -186,10 +178,11 @@ said a = saidAnswer (a .answer)
 pub record ToldLists : Type 0 where
   -- each setting is made on what the one before it left; a refused one changes nothing
   pub all : setAll some (heads (0xF0010000 ∷ [])) ≡ 0xF0010000 ∷ 0x04000200 ∷ 0 ∷ 0 ∷ []
-  pub discovery : setAll (Setting.number Number.discovery-version-major 1 ∷ Setting.number Number.discovery-version-minor 2 ∷ Setting.flag Flag.request-endpoint-info true ∷ Setting.flag Flag.request-endpoint-name true ∷ Setting.flag Flag.request-product-instance-id true ∷ Setting.flag Flag.request-product-instance-id false ∷ Setting.flag Flag.request-stream-configuration true ∷ []) (heads (0xF0000000 ∷ [])) ≡ 0xF0000102 ∷ 0x00000015 ∷ 0 ∷ 0 ∷ []
-  pub info : setAll (Setting.number Number.info-version-major 3 ∷ Setting.number Number.info-version-minor 4 ∷ Setting.flag Flag.static-function-blocks true ∷ Setting.flag Flag.supports-midi2-protocol true ∷ Setting.flag Flag.supports-receiving-jr-timestamps true ∷ blocks 5 ∷ []) (heads (0xF0010000 ∷ [])) ≡ 0xF0010304 ∷ 0x85000202 ∷ 0 ∷ 0 ∷ []
-  pub other-flags : setAll (Setting.flag Flag.supports-midi1-protocol true ∷ Setting.flag Flag.supports-sending-jr-timestamps true ∷ []) (heads (0xF0010000 ∷ [])) ≡ 0xF0010000 ∷ 0x00000101 ∷ 0 ∷ 0 ∷ []
-  pub block-info : setAll (Setting.flag Flag.active true ∷ Setting.number Number.function-block-number 5 ∷ Setting.ui-hint H.SenderReceiver ∷ Setting.midi1-port P.RestrictBandwidth ∷ Setting.direction D.Input ∷ group 15 ∷ Setting.number Number.number-of-groups-spanned 6 ∷ Setting.number Number.midi-ci-version 7 ∷ Setting.number Number.max-number-of-midi-ci-streams 8 ∷ []) (heads (0xF0110003 ∷ [])) ≡ 0xF0118539 ∷ 0x0F060708 ∷ 0 ∷ 0 ∷ []
+  -- every field of a fixed kind
+  pub discovery-set : setAll discoverySettings (0xF0000000 ∷ 0x0000000A ∷ 0 ∷ 0 ∷ []) ≡ 0xF0000102 ∷ 0x00000015 ∷ 0 ∷ 0 ∷ []
+  pub info-set : setAll infoSettings (0xF0010000 ∷ 0x00000101 ∷ 0 ∷ 0 ∷ []) ≡ 0xF0010304 ∷ 0x85000202 ∷ 0 ∷ 0 ∷ []
+  pub identity-set : setAll identitySettings (heads (0xF0020000 ∷ [])) ≡ 0xF0020000 ∷ 0x00010203 ∷ 0x04050607 ∷ 0x08090A0B ∷ []
+  pub block-set : setAll blockSettings (heads (0xF0110003 ∷ [])) ≡ 0xF0118539 ∷ 0x0F060708 ∷ 0 ∷ 0 ∷ []
   -- the answers in order
   pub answers : map said (answerAll some (heads (0xF0010000 ∷ []))) ≡ accepted [] ∷ refusal 12 0 ∷ refusal 13 0 ∷ accepted [] ∷ []
   -- the last accepted value of a field, whatever was refused after it; the one given where none is
@@ -201,36 +194,25 @@ pub record ToldLists : Type 0 where
   pub of-one-field : onlyField fieldIn (Field.number Number.number-of-function-blocks) some ≡ blocks 4 ∷ blocks 200 ∷ []
 
 -- an endpoint info with this number of blocks, a block name with this number
-abbrev infoOf : ℕ → Message
-infoOf n =
-    M.EndpointInfo
-    (record {
-      «ump_version_major» = 3;
-      «ump_version_minor» = 4;
-      «static_function_blocks» = true;
-      «supports_midi2_protocol» = true;
-      «supports_midi1_protocol» = false;
-      «supports_receiving_jr_timestamps» = true;
-      «supports_sending_jr_timestamps» = false;
-      «number_of_function_blocks» = n;
-    })
+abbrev infoWith : ℕ → Message
+infoWith n = infoOf 3 4 true true false true false n
 
 abbrev blockNameOf : ℕ → Message
 blockNameOf n = M.FunctionBlockName n (packet 1)
 
 pub record ToldWriting : Type 0 where
   -- writing a record of a fixed kind: the fresh message with its fields
-  pub discovery : LeavesWritten (M.EndpointDiscovery (record { «ump_version_major» = 1; «ump_version_minor» = 2; «request_endpoint_info» = true; «request_device_identity» = false; «request_endpoint_name» = true; «request_product_instance_id» = false; «request_stream_configuration» = true })) (old 4) (0xF0000102 ∷ 0x00000015 ∷ 0 ∷ 0 ∷ [])
-  pub info : LeavesWritten (infoOf 5) (old 11) (0xF0010304 ∷ 0x85000202 ∷ 0 ∷ 0 ∷ 0 ∷ 0 ∷ 0 ∷ 0 ∷ old 3)
-  pub identity : LeavesWritten (M.DeviceIdentity (record { «device_manufacturer» = record { 0 = 1; 1 = 2; 2 = 3 }; «device_family» = 644; «device_family_model_number» = 902; «software_version» = record { 0 = 8; 1 = 9; 2 = 10; 3 = 11 } })) (old 4) (0xF0020000 ∷ 0x00010203 ∷ 0x04050607 ∷ 0x08090A0B ∷ [])
-  pub block-info : LeavesWritten (M.FunctionBlockInfo (record { active = true; «function_block_number» = 5; «ui_hint» = H.SenderReceiver; «midi1_port» = P.RestrictBandwidth; direction = D.Input; «first_group» = 15; «number_of_groups_spanned» = 6; «midi_ci_version» = 7; «max_number_of_midi_ci_streams» = 8 })) (old 4) (0xF0118539 ∷ 0x0F060708 ∷ 0 ∷ 0 ∷ [])
+  pub discovery-written : LeavesWritten discovery (old 4) (0xF0000102 ∷ 0x00000015 ∷ 0 ∷ 0 ∷ [])
+  pub info-written : LeavesWritten info (old 11) (0xF0010304 ∷ 0x85000202 ∷ 0 ∷ 0 ∷ 0 ∷ 0 ∷ 0 ∷ 0 ∷ old 3)
+  pub identity-written : LeavesWritten identity (old 4) (0xF0020000 ∷ 0x00010203 ∷ 0x04050607 ∷ 0x08090A0B ∷ [])
+  pub block-written : LeavesWritten blockInfo (old 4) (0xF0118539 ∷ 0x0F060708 ∷ 0 ∷ 0 ∷ [])
   -- 13 for a text kind, 12, 14
   pub endpoint-name : KeepsWritten (M.EndpointName (packet 1)) (old 4) 13
   pub product-instance-id : KeepsWritten (M.ProductInstanceId (packet 1)) (old 4) 13
   pub block-name : KeepsWritten (blockNameOf 5) (old 4) 13
-  pub too-large : KeepsWritten (infoOf 128) (old 4) 12
-  pub no-room : KeepsWritten (infoOf 127) (old 3) 14
+  pub too-large : KeepsWritten (infoWith 128) (old 4) 12
+  pub no-room : KeepsWritten (infoWith 127) (old 3) 14
   -- each breaks both rules: 13 before 12 and 14, 12 before 14
   pub thirteen-twelve : KeepsWritten (blockNameOf 256) (old 4) 13
   pub thirteen-fourteen : KeepsWritten (M.EndpointName (packet 1)) (old 3) 13
-  pub twelve-fourteen : KeepsWritten (infoOf 128) (old 3) 12
+  pub twelve-fourteen : KeepsWritten (infoWith 128) (old 3) 12
