@@ -1,5 +1,5 @@
 -- Document 01's example of a listing. Closed by computation.
-use Prim.Native.Nat.{ℕ, _/_, _%_}
+use Prim.Native.Nat.{ℕ}
 use mathlib.Core.Path.{_≡_, refl}
 use mathlib.Core.List.{List, [], _∷_, _++_}
 use Rattle.laws.specs.Pick.{both}
@@ -19,10 +19,7 @@ use Rattle.ascii_lines.specs.Ascii.{ascii}
 use Rattle.ascii_lines.specs.Numbers.{decimalIn, decimal, hexOrDash}
 use Rattle.listing.specs.Lines.{kindName}
 use Rattle.listing.specs.Listing.{wordsOf, listingOf}
-
--- a word's four bytes
-abbrev octets : ℕ → List ℕ
-octets w = w / 0x1000000 ∷ w / 0x10000 % 256 ∷ w / 0x100 % 256 ∷ w % 256 ∷ []
+use Rattle.listing.specs.Told.{octets}
 
 abbrev bytes : List ℕ
 bytes = each octets (0x10F80000 ∷ 0xF0118301 ∷ 0x02010000 ∷ 0 ∷ 0 ∷ 0xF0120541 ∷ 0 ∷ 0 ∷ 0 ∷ 0xF0110000 ∷ 0 ∷ 0 ∷ 0 ∷ [])

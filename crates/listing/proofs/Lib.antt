@@ -4,3 +4,4 @@ pub mod Ahead
 pub mod Lines
 pub mod Lengths
 pub mod Room
+pub mod Told

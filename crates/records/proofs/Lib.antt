@@ -1,3 +1,4 @@
+pub mod Told
 pub mod Records
 pub mod Settings
 pub mod Methods

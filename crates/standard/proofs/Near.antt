@@ -59,7 +59,7 @@ module _ (ws : List ℕ) where
     unfolding readKind
     kind-near k =
         ruled-near (otherStatus ws) (packetsOf ws) StatusDiffers _ h (λ p. refl)
-        (tested (ltb (mostOf k) (packetsOf ws)) (WrongFormat (packet 1)) _ (lit≤ tt)
+        (tested (ltb (mostOf k) (packetsOf ws)) _ _ (lit≤ tt)
         (λ t. ruled-near (otherFormat ws) (packetsOf ws) WrongFormat _ h (λ p. refl) (ruled-near (otherField (layout k .fields) ws) (packetsOf ws) BlockNumberDiffers _ h (λ p. refl) (body-near k))))
 
     known-near : (k : Known) → Near (readKnown k ws)

@@ -69,7 +69,7 @@ read-onward (R.Refused r) pos end next a b = (a, b)
 framed-onward : (f : Framed) (ws : List ℕ) (pos : ℕ) → pos < length ws → Room ws pos f → Onward pos (length ws) (framedOf f ws pos)
 unfolding framedOf
 framed-onward Short ws pos h r = (h, omega arith)
-framed-onward (Broken b) ws pos h r = (omega arith, r)
+framed-onward (Broken b) ws pos h r = (omega arith, omega (arith, r))
 framed-onward (Whole n) ws pos h r = read-onward (readOf (part ws pos (n .0))) pos (length ws) (pos + n .0 * 4) (omega arith) (r .2)
 
 other-onward : (t : ℕ) (ws : List ℕ) (pos : ℕ) → pos < length ws → Onward pos (length ws) (otherOf t ws pos)

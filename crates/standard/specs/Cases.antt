@@ -7,7 +7,8 @@ use lib.ListN.{length, replicate}
 use Rattle.kinds.specs.declared.kind.Kind.{Kind}
 use Rattle.kinds.specs.declared.kind.Kind.the-variants as K
 use Rattle.kinds.specs.Fields.{Flag, Number, Text, Setting}
-use Rattle.records.specs.Answers.{Said, accepted, saidRead}
+use Rattle.records.specs.Answers.{accepted, saidRead}
+use Rattle.records.specs.Told.{refusal}
 use Rattle.standard.specs.Reading.{readOf, textAt}
 use Rattle.standard.specs.Words.{fresh}
 use Rattle.standard.specs.Lists.{setAll}
@@ -17,11 +18,11 @@ abbrev packets : ℕ → List ℕ → List ℕ
 packets n ws = ws ++ replicate (n * 4 - length ws) 0
 
 -- n letters `a`
-abbrev letters : ℕ → List ℕ
+abbrev pub letters : ℕ → List ℕ
 letters n = replicate n 0x61
 
 -- three words full of them
-abbrev full : List ℕ
+abbrev pub full : List ℕ
 full = 0x61616161 ∷ 0x61616161 ∷ 0x61616161 ∷ []
 
 -- a fresh message in n packets that held other words before, after the settings
@@ -51,9 +52,6 @@ info =
     ∷ Setting.flag Flag.supports-midi2-protocol true
     ∷ Setting.flag Flag.supports-midi1-protocol true
     ∷ []
-
-abbrev refusal : ℕ → ℕ → Said
-refusal n p = record { refusal = n; place = p; values = [] }
 
 pub record Twelve : Type 0 where
   -- endpoint name: empty, `A`, fourteen and fifteen `a`

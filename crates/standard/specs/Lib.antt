@@ -9,3 +9,7 @@ pub mod Words
 pub mod Lists
 pub mod Cases
 pub mod Said
+pub mod ToldReading
+pub mod ToldWalk
+pub mod ToldPacket
+pub mod ToldWords
