@@ -2,11 +2,11 @@
 use mathlib.Core.Path.{refl}
 use Rattle.laws.specs.Lists.{each}
 use Rattle.ascii_lines.specs.Numbers.{decimalIn, decimal, hexOrDash}
-use Rattle.ascii_lines.specs.Told.{LinesTold}
+use Rattle.ascii_lines.specs.Told.{ToldLines}
 
-pub lines-told : LinesTold
+pub told-lines : ToldLines
 unfolding each decimalIn decimal hexOrDash
-lines-told =
+told-lines =
     record {
       nought = refl;
       nine = refl;

@@ -4,7 +4,7 @@ use mathlib.Core.List.{[], _∷_}
 use Rattle.ascii_lines.specs.Ascii.{ascii}
 use Rattle.ascii_lines.specs.Numbers.{decimal, hexByte, numbers, hexOrDash}
 
-pub record LinesTold : Type 0 where
+pub record ToldLines : Type 0 where
   -- numbers in decimal, with no zeros before them
   pub nought : decimal 0 ≡ ascii "0"
   pub nine : decimal 9 ≡ ascii "9"

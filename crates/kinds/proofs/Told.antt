@@ -5,11 +5,11 @@ use Rattle.laws.specs.Lists.{map}
 use Rattle.slots.specs.Slots.{get, put, putAll, those, fits}
 use Rattle.kinds.specs.Fields.{decided, same, start, partOf, joined}
 use Rattle.kinds.specs.Layout.{layout, among, held, valuesIn}
-use Rattle.kinds.specs.Told.{KindsTold, RefusalsTold}
+use Rattle.kinds.specs.Told.{ToldTable, ToldRefusalNumbers}
 
-pub kinds-told : KindsTold
+pub told-table : ToldTable
 unfolding both map get put putAll those fits decided same start partOf joined layout among held valuesIn
-kinds-told =
+told-table =
     record {
       statuses = refl;
       known = refl;
@@ -62,8 +62,8 @@ kinds-told =
       block-names = refl;
     }
 
-pub refusals-told : RefusalsTold
-refusals-told =
+pub told-refusal-numbers : ToldRefusalNumbers
+told-refusal-numbers =
     record {
       one = (refl, refl);
       two = (refl, refl);

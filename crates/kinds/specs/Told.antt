@@ -118,7 +118,7 @@ otherBlock =
     ∷ Setting.direction D.Output
     ∷ []
 
-pub record KindsTold : Type 0 where
+pub record ToldTable : Type 0 where
   -- statuses 0x00, 0x01, 0x02, 0x03, 0x04, 0x11, 0x12, each way
   pub statuses : map (λ k. layout k .status) (K.EndpointDiscovery ∷ K.EndpointInfo ∷ K.DeviceIdentity ∷ K.EndpointName ∷ K.ProductInstanceId ∷ K.FunctionBlockInfo ∷ K.FunctionBlockName ∷ []) ≡ 0x00 ∷ 0x01 ∷ 0x02 ∷ 0x03 ∷ 0x04 ∷ 0x11 ∷ 0x12 ∷ []
   pub known : map kindOf (0x00 ∷ 0x01 ∷ 0x02 ∷ 0x03 ∷ 0x04 ∷ 0x11 ∷ 0x12 ∷ []) ≡ Is K.EndpointDiscovery ∷ Is K.EndpointInfo ∷ Is K.DeviceIdentity ∷ Is K.EndpointName ∷ Is K.ProductInstanceId ∷ Is K.FunctionBlockInfo ∷ Is K.FunctionBlockName ∷ []
@@ -191,7 +191,7 @@ abbrev Is-refusal : Refusal → ℕ → ℕ → Type 0
 Is-refusal r n p = (refusalNumber r ≡ n) × (refusalPlace r ≡ p)
 
 -- place is the packet for 4, 6, 7, 8 and 0 for the others
-pub record RefusalsTold : Type 0 where
+pub record ToldRefusalNumbers : Type 0 where
   -- under 4 words
   pub one : Is-refusal TooFewWords 1 0
   -- length not a multiple of four

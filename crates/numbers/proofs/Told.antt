@@ -7,11 +7,11 @@ use Rattle.kinds.specs.Fields.{decided, same, start, partOf, joined}
 use Rattle.kinds.specs.Layout.{layout, among, held, valuesIn}
 use Rattle.records.specs.Records.{recordOf, fieldsIn, lookup, firstPart}
 use Rattle.numbers.specs.FromNumbers.{spread, fromKind}
-use Rattle.numbers.specs.Told.{NumbersTold}
+use Rattle.numbers.specs.Told.{ToldNumbers}
 
-pub numbers-told : NumbersTold
+pub told-numbers : ToldNumbers
 unfolding both map each get those fits decided same start partOf joined layout among held valuesIn recordOf fieldsIn lookup firstPart spread fromKind
-numbers-told =
+told-numbers =
     record {
       block-numbers = refl;
       block-back = refl;

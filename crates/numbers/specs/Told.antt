@@ -22,7 +22,7 @@ block = record { status = 0x11; packets = 1; first = 0; second = 11; third = 2; 
 abbrev identity : Numbers
 identity = record { status = 0x02; packets = 1; first = 1; second = 2; third = 3; fourth = 0x284; fifth = 0x386; sixth = 8; seventh = 9; eighth = 10; ninth = 11 }
 
-pub record NumbersTold : Type 0 where
+pub record ToldNumbers : Type 0 where
   -- the fields in the table's order, choices by their codes
   pub block-numbers : asNumbers (in-words K.FunctionBlockInfo (0xF0110B27 ∷ 0x0C0D0E0F ∷ 0 ∷ 0 ∷ [])) ≡ block
   pub block-back : saidFrom (fromNumbers block) ≡ accepted (0x11 ∷ 1 ∷ 0 ∷ 11 ∷ 2 ∷ 1 ∷ 3 ∷ 12 ∷ 13 ∷ 14 ∷ 15 ∷ [])

@@ -12,3 +12,4 @@ pub mod Writing
 pub mod Outcomes
 pub mod Crossing
 pub mod Said
+pub mod Told

@@ -6,11 +6,11 @@ use Rattle.text.specs.Written.{headOctet, octetAt, wordIn, wordNew, writ
 use Rattle.text.specs.Bytes.{textByte, allBytes}
 use Rattle.text.specs.Place.{byteAt, seek, stepAt}
 use Rattle.text.specs.BigEndian.{bigEndianAt}
-use Rattle.text.specs.Told.{TextTold}
+use Rattle.text.specs.Told.{ToldTextPackets}
 
-pub text-told : TextTold
+pub told-text-packets : ToldTextPackets
 unfolding tabulate upTo nonzero map octetOf needed dueFormat headOctet octetAt wordIn wordNew written blank eachFirst textByte allBytes byteAt seek stepAt bigEndianAt
-text-told =
+told-text-packets =
     record {
       octets = refl;
       needed-14 = refl;

@@ -57,7 +57,7 @@ nameHead f = 0xF0030000 + f * 0x4000000
 abbrev blockHead : ℕ → ℕ
 blockHead f = 0xF0120500 + f * 0x4000000
 
-pub record TextTold : Type 0 where
+pub record ToldTextPackets : Type 0 where
   -- octet 0 of a word is its highest byte
   pub octets : map (octetOf 0x12345678) (0 ∷ 1 ∷ 2 ∷ 3 ∷ []) ≡ 0x12 ∷ 0x34 ∷ 0x56 ∷ 0x78 ∷ []
   -- packets needed: 1 for empty text, else bytes divided by capacity, rounded up

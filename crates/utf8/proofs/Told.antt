@@ -3,11 +3,11 @@ use mathlib.Core.Path.{refl}
 use Rattle.laws.specs.Lists.{map, nonzero}
 use Rattle.utf8.specs.Utf8.{dueAfter, firstBad}
 use Rattle.utf8.specs.Scan.{leadingOnes, lengthByOnes, charLength, neverFirst}
-use Rattle.utf8.specs.Told.{Utf8Told}
+use Rattle.utf8.specs.Told.{ToldUtf8}
 
-pub utf8-told : Utf8Told
+pub told-utf8 : ToldUtf8
 unfolding map nonzero dueAfter firstBad leadingOnes lengthByOnes charLength neverFirst
-utf8-told =
+told-utf8 =
     record {
       empty = refl;
       one = refl;

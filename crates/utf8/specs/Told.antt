@@ -17,7 +17,7 @@ Taken ts = map firstBad ts ≡ map (λ t. Good) ts
 abbrev Refused : List (List ℕ) → Type 0
 Refused ts = map firstBad ts ≡ map (λ t. BadAt (byte 0)) ts
 
-pub record Utf8Told : Type 0 where
+pub record ToldUtf8 : Type 0 where
   -- an empty text is good
   pub empty : firstBad [] ≡ Good
   -- one byte: 00 to 7F
