@@ -6,9 +6,9 @@ ghost use Rattle.bit_ops.specs.Parts.{partIn};
 ghost use Rattle.kinds.specs.declared.kind.Kind.the-variants as K;
 ghost use Rattle.standard.specs.Reading.{messageAt, readBody};
 use counts::PacketNumber;
-use kinds::choices::direction_of;
-use kinds::choices::hint_of;
-use kinds::choices::port_of;
+use kinds::choices::direction_of_valid_code;
+use kinds::choices::hint_of_valid_code;
+use kinds::choices::port_of_valid_code;
 use kinds::refusal::Refusal;
 use records::answers::Read;
 use records::device_identity::DeviceIdentity;
@@ -108,9 +108,9 @@ pub(crate) fn function_block_info(words: &[u32]) -> Message
     Message::FunctionBlockInfo(FunctionBlockInfo {
         active: bit_ops::bit(a, 16),
         function_block_number: bit_ops::septet(a, 2),
-        ui_hint: hint_of(bit_ops::crumb(a, 13)),
-        midi1_port: port_of(bit_ops::crumb(a, 14)),
-        direction: direction_of(bit_ops::crumb(a, 15)),
+        ui_hint: hint_of_valid_code(bit_ops::crumb(a, 13)),
+        midi1_port: port_of_valid_code(bit_ops::crumb(a, 14)),
+        direction: direction_of_valid_code(bit_ops::crumb(a, 15)),
         first_group: bit_ops::nibble(b, 1),
         number_of_groups_spanned: bit_ops::octet(b, 1),
         midi_ci_version: bit_ops::octet(b, 2),
