@@ -3,13 +3,15 @@ ghost use mathlib.Core.Path.{_≡_};
 ghost use Prim.Native.Nat.{_≤_};
 ghost use Rattle.text.specs.Written.{wholeWords, blank};
 ghost use Rattle.buffer.specs.Acts.{clearFrom};
+use counts::first_word;
+use text::packets::packets_of;
 
 // Clears every word from word `from` on, up to the end of the last whole packet.
 pub(crate) fn clear_from(words: &mut [u32], from: usize)
     requires { ⌜ from ≤ wholeWords (now words) ⌝ }
     ensures { λ _. ⌜ now (words .exit) ≡ clearFrom from (now (words .entry)) ⌝ }
 {
-    let end = words.len() / 4 * 4;
+    let end = first_word(packets_of(words)).0;
     let mut k = from;
     while k < end {
         words[k] = 0;

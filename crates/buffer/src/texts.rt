@@ -17,7 +17,12 @@ use text::packets::due_format;
 fn head_of(head: u32, n: usize, p: usize) -> u32
     ensures { λ r. ⌜ r ≡ formatted head (dueFormat n p) ⌝ }
 {
-    with_field(head, 26, 2, due_format(n, p) as u32)
+    with_field(
+        head,
+        26,
+        2,
+        due_format(PacketNumber(n), PacketNumber(p)) as u32,
+    )
 }
 
 // Byte i of the text; 0 past its end.

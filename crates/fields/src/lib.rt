@@ -4,6 +4,9 @@ ghost use Prim.Native.Nat.{_^_, _≤_};
 ghost use lib.Dec.{leb};
 ghost use Rattle.fields.specs.Puts.{putIfFits, putIn, putEach};
 use counts::PacketNumber;
+use counts::WordNumber;
+use counts::first_word;
+use text::packets::packets_of;
 
 // 2 to the power of `k`.
 fn power_of_two(k: usize) -> u64
@@ -44,11 +47,12 @@ pub fn with_field(w: u32, at: usize, span: usize, v: u32) -> u32
 }
 
 // The same in one word of a buffer.
-pub fn put_field(words: &mut [u32], word: usize, at: usize, span: usize, v: u32)
-    ensures { λ _. ⌜ now (words .exit) ≡ putIn word at span v (now (words .entry)) ⌝ }
+pub fn put_field(words: &mut [u32], word: WordNumber, at: usize, span: usize, v: u32)
+    ensures { λ _. ⌜ now (words .exit) ≡ putIn (word .0) at span v (now (words .entry)) ⌝ }
 {
-    if word < words.len() {
-        words[word] = with_field(words[word], at, span, v);
+    let i = word.0;
+    if i < words.len() {
+        words[i] = with_field(words[i], at, span, v);
     }
 }
 
@@ -57,12 +61,13 @@ pub fn put_each(words: &mut [u32], packets: PacketNumber, at: usize, span: usize
     ensures { λ _. ⌜ now (words .exit) ≡ putEach (packets .0) at span v (now (words .entry)) ⌝ }
 {
     let n = packets.0;
-    if words.len() / 4 < n {
+    if packets_of(words).0 < n {
         return;
     }
     let mut p = 0;
     while p < n {
-        words[p * 4] = with_field(words[p * 4], at, span, v);
+        let k = first_word(PacketNumber(p)).0;
+        words[k] = with_field(words[k], at, span, v);
         p += 1;
     }
 }

@@ -70,9 +70,9 @@ pub fn format_code(format: Format) -> u32
     }
 }
 
-// The choice of a code. Port 3 and direction 0 name no choice: callers refuse them first.
+// Helpers of the crates that make records: the choice of a valid code. Callers have refused every other code (port 3, direction 0, any above 3); here it gives the last choice.
 
-pub fn hint_of(code: u8) -> UiHint
+pub fn hint_of_valid_code(code: u8) -> UiHint
     ensures { λ r. ⌜ r ≡ hintOf code ⌝ }
 {
     match code {
@@ -83,7 +83,7 @@ pub fn hint_of(code: u8) -> UiHint
     }
 }
 
-pub fn port_of(code: u8) -> Midi1Port
+pub fn port_of_valid_code(code: u8) -> Midi1Port
     ensures { λ r. ⌜ r ≡ portOf code ⌝ }
 {
     match code {
@@ -93,7 +93,7 @@ pub fn port_of(code: u8) -> Midi1Port
     }
 }
 
-pub fn direction_of(code: u8) -> Direction
+pub fn direction_of_valid_code(code: u8) -> Direction
     ensures { λ r. ⌜ r ≡ directionOf code ⌝ }
 {
     match code {

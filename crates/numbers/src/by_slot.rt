@@ -2,6 +2,7 @@
 ghost use mathlib.Core.Path.{_≡_};
 ghost use Rattle.kinds.specs.Layout.{layout};
 ghost use Rattle.numbers.specs.BySlot.{fitFrom, putFrom};
+use counts::WordNumber;
 use fields::put_field;
 use fields::too_large;
 use kinds::kind::Kind;
@@ -30,6 +31,6 @@ pub fn put_numbers(words: &mut [u32], kind: Kind, first: u8, numbers: &[u32])
     while 0 < i {
         i -= 1;
         let place = place_of(kind, first as usize + i);
-        put_field(words, place.0, place.1, place.2, numbers[i]);
+        put_field(words, WordNumber(place.0), place.1, place.2, numbers[i]);
     }
 }

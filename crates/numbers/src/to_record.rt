@@ -6,9 +6,9 @@ ghost use Rattle.numbers.specs.FromNumbers.{Fitting, valuesFrom, fromKin
 use crate::Numbers;
 use crate::in_slots::numbers_in_range;
 use counts::PacketNumber;
-use kinds::choices::direction_of;
-use kinds::choices::hint_of;
-use kinds::choices::port_of;
+use kinds::choices::direction_of_valid_code;
+use kinds::choices::hint_of_valid_code;
+use kinds::choices::port_of_valid_code;
 use kinds::kind::Kind;
 use kinds::kind::Known;
 use kinds::refusal::Refusal;
@@ -81,9 +81,9 @@ fn function_block_info(c: Numbers) -> Message
     Message::FunctionBlockInfo(FunctionBlockInfo {
         active: c.first == 1,
         function_block_number: c.second as u8,
-        ui_hint: hint_of(c.third as u8),
-        midi1_port: port_of(c.fourth as u8),
-        direction: direction_of(c.fifth as u8),
+        ui_hint: hint_of_valid_code(c.third as u8),
+        midi1_port: port_of_valid_code(c.fourth as u8),
+        direction: direction_of_valid_code(c.fifth as u8),
         first_group: c.sixth as u8,
         number_of_groups_spanned: c.seventh as u8,
         midi_ci_version: c.eighth as u8,

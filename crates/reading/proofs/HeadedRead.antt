@@ -1,5 +1,5 @@
 -- What the pass found is what the rules give: a message of its kind. Closed by the fields that like heads share, and text that is good.
-use Prim.Native.Nat.{ℕ, _+_, _*_, _%_, _≤_, _<_}
+use Prim.Native.Nat.{ℕ, _+_, _*_, _%_, _^_, _≤_, _<_}
 use mathlib.Core.Path.{_≡_, refl, sym, ap, _∙_}
 use mathlib.Core.Bool.{true, false}
 use mathlib.Core.List.{List}
@@ -12,6 +12,9 @@ use borrow.Author.Tests.{le-ltb, ltb-false, eqb-true}
 use Rattle.laws.specs.Bits.{fieldOf, putField}
 use Rattle.laws.proofs.Bits.{get-above, get-below, same-above}
 use Rattle.laws.proofs.Pick.{true-false, past, passed, split, eq-differ}
+use Rattle.counts.specs.Counts.{word, firstWord, wholePackets, wrapped}
+use Rattle.counts.specs.declared.PacketNumber.{PacketNumber}
+use Rattle.counts.specs.declared.WordNumber.{WordNumber}
 use Rattle.utf8.specs.Utf8.{firstBad}
 use Rattle.text_check.specs.FastCheck.{isGood}
 use Rattle.kinds.specs.declared.kind.Kind.{Kind}
@@ -93,23 +96,26 @@ headed-read k ws some whole known e =
     let a = passed (ltb (mostOf k) (packetsOf ws)) false (eqb (headedPackets ws (offsetOf k)) (packetsOf ws)) true (λ q. true-false (sym q)) e in
     by-rules k ws (headed-seen ws (offsetOf k) (packetsOf ws) (eqb-true _ _ (a .1)) (omega arith)) whole known (ltb-false _ _ (a .0))
 
--- ---- whole packets, as the words of all of them
-module _ (ws : List ℕ) (long : 4 ≤ length ws) (whole : length ws % 4 ≡ 0) where
-  all-words : take (packetsOf ws * 4) ws ≡ ws
-  all-words = take-all (packetsOf ws * 4) ws (omega arith)
+-- ---- whole packets, as the words of all of them: n packets, before word k
+module _ (ws : List ℕ) {n : PacketNumber} {k : WordNumber} (are : n ≡ wholePackets (word (length ws))) (before : k ≡ wrapped (firstWord n)) (fits : length ws < 2 ^ 64) (long : 4 ≤ length ws) (whole : length ws % 4 ≡ 0) where
+  count-is : n .0 ≡ packetsOf ws
+  count-is = ap (λ (x : PacketNumber). x .0) are
 
-  pub all-count : packetsOf ws * 4 ≡ length (take (packetsOf ws * 4) ws)
-  all-count = rw all-words (omega arith)
+  all-words : take (k .0) ws ≡ ws
+  all-words = let e = ap (λ (x : WordNumber). x .0) before in take-all (k .0) ws (omega (arith, e, count-is))
 
-  pub all-long : 4 ≤ length (take (packetsOf ws * 4) ws)
+  pub all-count : k .0 ≡ length (take (k .0) ws)
+  all-count = let e = ap (λ (x : WordNumber). x .0) before in rw all-words (omega (arith, e, count-is))
+
+  pub all-long : 4 ≤ length (take (k .0) ws)
   all-long = rw all-words long
 
-  pub all-headed : (k : Kind) → kindOf (statusOf (headAt ws 0)) ≡ Is k → headsRight k (take (packetsOf ws * 4) ws) (packetsOf ws) ≡ true → readBody k (take (packetsOf ws * 4) ws) ≡ readOf ws
-  all-headed k known e = rw all-words (headed-read k ws long whole known (rw all-words at e))
+  pub all-headed : (kind : Kind) → kindOf (statusOf (headAt ws 0)) ≡ Is kind → headsRight kind (take (k .0) ws) (n .0) ≡ true → readBody kind (take (k .0) ws) ≡ readOf ws
+  all-headed kind known e = rw all-words (headed-read kind ws long whole known (rw (all-words, are) at e))
 
-  pub all-rules : packetsOf ws ≤ 64 → rulesRead (take (packetsOf ws * 4) ws) ≡ readOf ws
+  pub all-rules : n .0 ≤ 64 → rulesRead (take (k .0) ws) ≡ readOf ws
   unfolding readOf rulesRead
-  all-rules h = rw all-words (past _ (le-ltb (length ws) 4 long) (past _ (eq-differ (length ws % 4) 0 whole) (past _ (le-ltb 64 (packetsOf ws) h) refl)))
+  all-rules h = rw all-words (past _ (le-ltb (length ws) 4 long) (past _ (eq-differ (length ws % 4) 0 whole) (past _ (le-ltb 64 (packetsOf ws) (rw are at h)) refl)))
 
 -- ---- a message of text at the start of the words
 seen-good : (ws : List ℕ) (offset n : ℕ) → seenText ws offset ≡ n → 0 < n → Headed ws offset n × (goodText ws offset n ≡ true)

@@ -11,6 +11,9 @@ use lib.Dec.{leb, ltb, eqb}
 use Rattle.laws.specs.Pick.{pick, differ}
 use borrow.Author.Tests.{leb-false, lt-leb, lt-ltb, le-ltb, ne-eqb, eqb-true}
 use Rattle.laws.proofs.Pick.{true-false, split, here, past, passed, eq-differ, ne-differ, differ-false}
+use Rattle.counts.specs.Counts.{packet, firstWord, wrapped}
+use Rattle.counts.specs.declared.PacketNumber.{PacketNumber}
+use Rattle.counts.specs.declared.WordNumber.{WordNumber}
 use Rattle.utf8.specs.Utf8.{firstBad}
 use Rattle.text.specs.Octets.{dueFormat}
 use Rattle.text.specs.Bytes.{textOf}
@@ -162,6 +165,13 @@ module _ (ws : List ℕ) (offset n : ℕ) (s : Headed ws offset n) where
 pub headed-within : (ws : List ℕ) (offset n : ℕ) → headedPackets ws offset ≡ n → (n * 4 ≤ length ws) × (n ≤ 64)
 headed-within ws offset zero e = (omega arith, omega arith)
 headed-within ws offset (suc n) e = let s = headed-seen ws offset (suc n) e (omega arith) in (headed-room ws offset (suc n) s, s .most)
+
+-- the word after them
+pub headed-to : (ws : List ℕ) (offset : ℕ) {n : PacketNumber} {k : WordNumber} → n ≡ packet (headedPackets ws offset) → k ≡ wrapped (firstWord n) → k .0 ≡ n .0 * 4
+headed-to ws offset {n} e t =
+    let h = headed-within ws offset (n .0) (sym (ap (λ (x : PacketNumber). x .0) e)) .1 in
+    let f = ap (λ (x : WordNumber). x .0) t in
+    omega (arith, h, f)
 
 -- ---- the heads by the packets that a kind may have
 module _ (k : Kind) (ws : List ℕ) (n : ℕ) where

@@ -6,7 +6,7 @@ use text::Stepped;
 use text::TextPlace;
 
 // 1 where the first word's status is 0x12, else 0.
-pub fn text_offset(words: &[u32]) -> usize
+fn text_offset(words: &[u32]) -> usize
     ensures { λ r. ⌜ r ≡ offsetHere (now (words .entry)) ⌝ }
 {
     if words.len() == 0 {

@@ -5,10 +5,9 @@ ghost use lib.ListN.{length};
 ghost use Rattle.bit_ops.specs.Parts.{partIn};
 ghost use Rattle.kinds.specs.declared.kind.Kind.the-variants as K;
 ghost use Rattle.standard.specs.Reading.{messageAt, readBody};
-use counts::PacketNumber;
-use kinds::choices::direction_of;
-use kinds::choices::hint_of;
-use kinds::choices::port_of;
+use kinds::choices::direction_of_valid_code;
+use kinds::choices::hint_of_valid_code;
+use kinds::choices::port_of_valid_code;
 use kinds::refusal::Refusal;
 use records::answers::Read;
 use records::device_identity::DeviceIdentity;
@@ -18,6 +17,7 @@ use records::endpoint_discovery::EndpointDiscovery;
 use records::endpoint_info::EndpointInfo;
 use records::function_block_info::FunctionBlockInfo;
 use records::message::Message;
+use text::packets::packets_of;
 
 pub(crate) fn endpoint_discovery(words: &[u32]) -> Message
     requires { ⌜ 4 ≤ length (now words) ⌝ }
@@ -90,13 +90,13 @@ pub(crate) fn device_identity(words: &[u32]) -> Message
 pub(crate) fn endpoint_name(words: &[u32]) -> Message
     ensures { λ r. ⌜ r ≡ messageAt K.EndpointName (now (words .entry)) ⌝ }
 {
-    Message::EndpointName(PacketNumber(words.len() / 4))
+    Message::EndpointName(packets_of(words))
 }
 
 pub(crate) fn product_instance_id(words: &[u32]) -> Message
     ensures { λ r. ⌜ r ≡ messageAt K.ProductInstanceId (now (words .entry)) ⌝ }
 {
-    Message::ProductInstanceId(PacketNumber(words.len() / 4))
+    Message::ProductInstanceId(packets_of(words))
 }
 
 pub(crate) fn function_block_info(words: &[u32]) -> Message
@@ -108,9 +108,9 @@ pub(crate) fn function_block_info(words: &[u32]) -> Message
     Message::FunctionBlockInfo(FunctionBlockInfo {
         active: bit_ops::bit(a, 16),
         function_block_number: bit_ops::septet(a, 2),
-        ui_hint: hint_of(bit_ops::crumb(a, 13)),
-        midi1_port: port_of(bit_ops::crumb(a, 14)),
-        direction: direction_of(bit_ops::crumb(a, 15)),
+        ui_hint: hint_of_valid_code(bit_ops::crumb(a, 13)),
+        midi1_port: port_of_valid_code(bit_ops::crumb(a, 14)),
+        direction: direction_of_valid_code(bit_ops::crumb(a, 15)),
         first_group: bit_ops::nibble(b, 1),
         number_of_groups_spanned: bit_ops::octet(b, 1),
         midi_ci_version: bit_ops::octet(b, 2),
@@ -139,6 +139,6 @@ pub(crate) fn function_block_name(words: &[u32]) -> Message
 {
     Message::FunctionBlockName {
         function_block: bit_ops::octet(words[0], 2),
-        packets: PacketNumber(words.len() / 4),
+        packets: packets_of(words),
     }
 }

@@ -2,6 +2,7 @@
 ghost use mathlib.Core.Path.{_≡_};
 ghost use Prim.Native.Nat.{_≤_};
 ghost use lib.ListN.{length};
+ghost use Rattle.counts.specs.Counts.{packet};
 ghost use Rattle.kinds.specs.Layout.{mostOf};
 ghost use Rattle.standard.specs.Heads.{packetsOf};
 ghost use Rattle.standard.specs.Reading.{readBody, readKind, readOf};
@@ -9,25 +10,27 @@ ghost use Rattle.reading.specs.Bodies.{fieldsRead, rulesRead};
 ghost use Rattle.reading.specs.OnePass.{headsRight};
 use crate::from_words;
 use crate::heads::status_of;
+use crate::helpers::offset_of;
 use crate::one_pass::headed_packets;
-use crate::one_pass::offset_of;
 use crate::rules::Rule;
 use crate::rules::first_broken;
 use counts::PacketNumber;
+use counts::first_word;
 use kinds::kind::Kind;
 use kinds::kind::Known;
 use kinds::refusal::Refusal;
 use records::answers::Read;
 use table::rows::kind_of;
 use table::rows::row_of;
+use text::packets::packets_of;
 use text_check::good_text;
 
 // A fixed kind is one packet, text at most 64.
-pub fn most_packets(kind: Kind) -> usize
-    ensures { λ r. ⌜ r ≡ mostOf kind ⌝ }
+pub(crate) fn most_packets(kind: Kind) -> PacketNumber
+    ensures { λ r. ⌜ r ≡ packet (mostOf kind) ⌝ }
 {
     let row = row_of(kind);
-    row.most_packets
+    PacketNumber(row.most_packets)
 }
 
 // Refusals 9, 10 and 11, else the message. `&words[0..]` makes the compiler pass the slice in registers.
@@ -68,7 +71,7 @@ pub(crate) fn read_fields(kind: Kind, words: &[u32]) -> Read
 {
     if 0 < offset_of(kind) {
         let b = first_broken(Rule::FunctionBlock, words);
-        if b.0 < words.len() / 4 {
+        if b.0 < packets_of(words).0 {
             return Read::Refused(Refusal::BlockNumberDiffers(b));
         }
         return read_body(kind, words);
@@ -81,12 +84,12 @@ fn read_kind(kind: Kind, words: &[u32]) -> Read
     requires { ⌜ 4 ≤ length (now words) ⌝ }
     ensures { λ r. ⌜ r ≡ readKind kind (now (words .entry)) ⌝ }
 {
-    let n = words.len() / 4;
+    let n = packets_of(words).0;
     let s = first_broken(Rule::Status, words);
     if s.0 < n {
         return Read::Refused(Refusal::StatusDiffers(s));
     }
-    if most_packets(kind) < n {
+    if most_packets(kind).0 < n {
         return Read::Refused(Refusal::WrongFormat(PacketNumber(1)));
     }
     let f = first_broken(Rule::Format, words);
@@ -97,16 +100,16 @@ fn read_kind(kind: Kind, words: &[u32]) -> Read
 }
 
 // Whether one pass over the heads rules out refusals 4 to 8, for a message of this kind in n packets. The compiler makes a loop for each offset.
-fn heads_right(kind: Kind, words: &[u32], n: usize) -> bool
-    ensures { λ r. ⌜ r ≡ headsRight kind (now (words .entry)) n ⌝ }
+fn heads_right(kind: Kind, words: &[u32], n: PacketNumber) -> bool
+    ensures { λ r. ⌜ r ≡ headsRight kind (now (words .entry)) (n .0) ⌝ }
 {
-    if most_packets(kind) < n {
+    if most_packets(kind).0 < n.0 {
         return false;
     }
     if offset_of(kind) == 0 {
-        return headed_packets(words, 0).0 == n;
+        return headed_packets(words, 0).0 == n.0;
     }
-    headed_packets(words, 1).0 == n
+    headed_packets(words, 1).0 == n.0
 }
 
 // Refusals 4 to 11, one rule after the other, else the message.
@@ -115,7 +118,7 @@ fn read_rules(words: &[u32]) -> Read
     ensures { λ r. ⌜ r ≡ rulesRead (now (words .entry)) ⌝ }
 {
     let t = first_broken(Rule::Type, words);
-    if t.0 < words.len() / 4 {
+    if t.0 < packets_of(words).0 {
         return Read::Refused(Refusal::WrongType(t));
     }
     match kind_of(status_of(words[0])) {
@@ -134,11 +137,11 @@ pub fn read(words: &[u32]) -> Read
     if words.len() % 4 != 0 {
         return Read::Refused(Refusal::NotWholePackets);
     }
-    let n = words.len() / 4;
-    if n > 64 {
+    let n = packets_of(words);
+    if n.0 > 64 {
         return Read::Refused(Refusal::TooManyPackets);
     }
-    let to = n * 4;
+    let to = first_word(n).0;
     let packets = &words[..to];
     if let Known::Is(kind) = kind_of(status_of(words[0])) {
         if heads_right(kind, packets, n) {

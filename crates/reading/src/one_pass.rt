@@ -2,23 +2,13 @@
 ghost use mathlib.Core.Path.{_≡_};
 ghost use Prim.Native.Nat.{_<_};
 ghost use Rattle.counts.specs.Counts.{packet};
-ghost use Rattle.reading.specs.Bodies.{offsetOf};
-ghost use Rattle.reading.specs.OnePass.{textBits, headBits, likeFirst, endsAt, headedPackets, seenText, textPackets};
+ghost use Rattle.reading.specs.OnePass.{textBits, headBits, likeFirst, endsAt, headedPackets};
 use crate::heads::format_of;
 use crate::heads::type_of;
 use counts::PacketNumber;
-use kinds::kind::Kind;
-use table::rows::row_of;
 use text::packets::due_format;
-use text_check::good_text;
-
-// How many octets after octet 2 the text of a kind starts: 0 or 1. `% 2` lets the compiler know.
-pub fn offset_of(kind: Kind) -> usize
-    ensures { λ r. ⌜ r ≡ offsetOf kind ⌝ }
-{
-    let row = row_of(kind);
-    row.text_offset % 2
-}
+use text::packets::head_at;
+use text::packets::packets_of;
 
 // The low bits of a packet's first word that may be text.
 fn text_bits(offset: usize) -> u32
@@ -40,28 +30,29 @@ fn head_bits(word: u32, offset: usize) -> u32
 }
 
 // Whether packet p is there, with a head like the first except for its format.
-fn like_first(words: &[u32], offset: usize, p: usize) -> bool
-    ensures { λ r. ⌜ r ≡ likeFirst (now (words .entry)) offset p ⌝ }
+fn like_first(words: &[u32], offset: usize, p: PacketNumber) -> bool
+    ensures { λ r. ⌜ r ≡ likeFirst (now (words .entry)) offset (p .0) ⌝ }
 {
-    if words.len() / 4 <= p {
+    if packets_of(words).0 <= p.0 {
         return false;
     }
-    head_bits(words[p * 4], offset) == head_bits(words[0], offset)
+    head_bits(head_at(words, p), offset) == head_bits(words[0], offset)
 }
 
 // The number of packets if packet p, with this format, is the last one; else 0.
-fn ends_at(format: u8, p: usize) -> usize
-    requires { ⌜ p < 64 ⌝ }
-    ensures { λ r. ⌜ r ≡ endsAt «format» p ⌝ }
+fn ends_at(format: u8, p: PacketNumber) -> PacketNumber
+    requires { ⌜ p .0 < 64 ⌝ }
+    ensures { λ r. ⌜ r ≡ packet (endsAt «format» (p .0)) ⌝ }
 {
-    if format == due_format(p + 1, p) {
-        return p + 1;
+    let n = PacketNumber(p.0 + 1);
+    if format == due_format(n, p) {
+        return n;
     }
-    0
+    PacketNumber(0)
 }
 
 // The number of packets of the message at the start of the words, or 0 if a head is wrong.
-pub fn headed_packets(words: &[u32], offset: usize) -> PacketNumber
+pub(crate) fn headed_packets(words: &[u32], offset: usize) -> PacketNumber
     ensures { λ r. ⌜ r ≡ packet (headedPackets (now (words .entry)) offset) ⌝ }
 {
     if words.len() == 0 {
@@ -72,10 +63,11 @@ pub fn headed_packets(words: &[u32], offset: usize) -> PacketNumber
     }
     let mut p = 0;
     while p < 64 {
-        if like_first(words, offset, p) {
-            let format = format_of(words[p * 4]);
-            if format != due_format(p + 2, p) {
-                return PacketNumber(ends_at(format, p));
+        let at = PacketNumber(p);
+        if like_first(words, offset, at) {
+            let format = format_of(head_at(words, at));
+            if format != due_format(PacketNumber(p + 2), at) {
+                return ends_at(format, at);
             }
             p += 1;
         } else {
@@ -83,30 +75,4 @@ pub fn headed_packets(words: &[u32], offset: usize) -> PacketNumber
         }
     }
     PacketNumber(0)
-}
-
-// The same, or 0 if its text is not UTF-8.
-fn seen_text(words: &[u32], offset: usize) -> PacketNumber
-    ensures { λ r. ⌜ r ≡ packet (seenText (now (words .entry)) offset) ⌝ }
-{
-    let packets = headed_packets(words, offset);
-    let n = packets.0;
-    if good_text(&words[..n * 4], offset) {
-        return packets;
-    }
-    PacketNumber(0)
-}
-
-// The same for a kind; 0 for a kind without text. The compiler makes a loop for each offset.
-pub fn text_packets(kind: Kind, words: &[u32]) -> PacketNumber
-    ensures { λ r. ⌜ r ≡ packet (textPackets kind (now (words .entry))) ⌝ }
-{
-    let row = row_of(kind);
-    if row.most_packets == 1 {
-        return PacketNumber(0);
-    }
-    if offset_of(kind) == 0 {
-        return seen_text(words, 0);
-    }
-    seen_text(words, 1)
 }

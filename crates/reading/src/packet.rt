@@ -2,18 +2,21 @@
 ghost use mathlib.Core.Path.{_≡_};
 ghost use lib.ListN.{getD};
 ghost use Rattle.laws.specs.First.{first};
+ghost use Rattle.counts.specs.Counts.{packet};
 ghost use Rattle.standard.specs.Heads.{packetsOf};
 ghost use Rattle.standard.specs.Packet.{packetOf, packetFormat, endsMessage, messageSize};
 ghost use Rattle.reading.specs.Rules.{ends};
 use crate::heads::format_of;
 use crate::heads::type_of;
 use counts::PacketNumber;
-use counts::WordNumber;
+use counts::first_word;
 use kinds::choices::Format;
 use kinds::refusal::Refusal;
 use records::answers::MessageSize;
 use records::answers::PacketRead;
 use records::packet::Packet;
+use text::packets::head_at;
+use text::packets::packets_of;
 
 // A word, and 0 past the end.
 fn word_or_zero(words: &[u32], i: usize) -> u32
@@ -64,27 +67,27 @@ fn ends_message(word: u32) -> bool
 }
 
 // The first packet that ends a message; the packet count where none does.
-fn first_end(words: &[u32]) -> usize
-    ensures { λ r. ⌜ r ≡ first (endsMessage (now (words .entry))) (packetsOf (now (words .entry))) ⌝ }
+fn first_end(words: &[u32]) -> PacketNumber
+    ensures { λ r. ⌜ r ≡ packet (first (endsMessage (now (words .entry))) (packetsOf (now (words .entry)))) ⌝ }
 {
-    let n = words.len() / 4;
+    let n = packets_of(words);
     let mut p = 0;
-    while p < n {
-        if ends_message(words[p * 4]) {
-            return p;
+    while p < n.0 {
+        if ends_message(head_at(words, PacketNumber(p))) {
+            return PacketNumber(p);
         }
         p += 1;
     }
-    p
+    PacketNumber(p)
 }
 
 // The words of the message that a slice starts with, by the formats alone.
 pub fn message_size(words: &[u32]) -> MessageSize
     ensures { λ r. ⌜ r ≡ messageSize (now (words .entry)) ⌝ }
 {
-    let p = first_end(words);
-    if p < words.len() / 4 {
-        return MessageSize::Words(WordNumber((p + 1) * 4));
+    let p = first_end(words).0;
+    if p < packets_of(words).0 {
+        return MessageSize::Words(first_word(PacketNumber(p + 1)));
     }
     MessageSize::Refused(Refusal::TooFewWords)
 }

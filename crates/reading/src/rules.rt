@@ -8,8 +8,10 @@ use crate::heads::status_of;
 use crate::heads::type_of;
 use counts::PacketNumber;
 use text::packets::due_format;
+use text::packets::head_at;
+use text::packets::packets_of;
 
-pub enum Rule {
+pub(crate) enum Rule {
     Type,
     Status,
     Format,
@@ -17,8 +19,8 @@ pub enum Rule {
 }
 
 // Whether packet `p` of `n`, whose first word is `word`, breaks a rule. `first` is the first word of packet 0.
-pub fn breaks(rule: Rule, first: u32, word: u32, p: usize, n: usize) -> bool
-    ensures { λ r. ⌜ r ≡ breaksOf rule first word p n ⌝ }
+fn breaks(rule: Rule, first: u32, word: u32, p: PacketNumber, n: PacketNumber) -> bool
+    ensures { λ r. ⌜ r ≡ breaksOf rule first word (p .0) (n .0) ⌝ }
 {
     match rule {
         Rule::Type => type_of(word) != 15,
@@ -29,14 +31,15 @@ pub fn breaks(rule: Rule, first: u32, word: u32, p: usize, n: usize) -> bool
 }
 
 // The first packet that breaks a rule; the packet count where none does.
-pub fn first_broken(rule: Rule, words: &[u32]) -> PacketNumber
+pub(crate) fn first_broken(rule: Rule, words: &[u32]) -> PacketNumber
     ensures { λ r. ⌜ r .0 ≡ first (brokenBy rule (now (words .entry))) (packetsOf (now (words .entry))) ⌝ }
 {
-    let n = words.len() / 4;
+    let n = packets_of(words);
     let mut p = 0;
-    while p < n {
-        if breaks(rule, words[0], words[p * 4], p, n) {
-            return PacketNumber(p);
+    while p < n.0 {
+        let at = PacketNumber(p);
+        if breaks(rule, words[0], head_at(words, at), at, n) {
+            return at;
         }
         p += 1;
     }

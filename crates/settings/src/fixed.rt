@@ -3,6 +3,7 @@ ghost use mathlib.Core.Path.{_≡_};
 ghost use Rattle.settings.specs.Fixed.{placeOn, slotsOn};
 use crate::target::Target;
 use crate::target::find_target;
+use counts::WordNumber;
 use fields::put_field;
 use fields::too_large;
 use kinds::kind::Kind;
@@ -30,7 +31,7 @@ pub(crate) fn set_place(
             if too_large(span, v) {
                 return Answer::Refused(Refusal::NumberTooLarge);
             }
-            put_field(words, word, at, span, v);
+            put_field(words, WordNumber(word), at, span, v);
             Answer::Done
         }
     }

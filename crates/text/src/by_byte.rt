@@ -8,8 +8,10 @@ ghost use Rattle.text.specs.declared.TextStep.the-variants.{End};
 use crate::Stepped;
 use crate::TextPlace;
 use crate::TextStep;
+use crate::packets::packets_of;
 use counts::PacketNumber;
 use counts::TextByteNumber;
+use counts::first_word;
 
 // Octet j of a word.
 fn octet_of(word: u32, j: usize) -> u8
@@ -19,13 +21,12 @@ fn octet_of(word: u32, j: usize) -> u8
     ((word >> (24 - j * 8)) % 256) as u8
 }
 
-// The text byte at a place; 0 if no whole packet has such a byte.
+// The text byte at a place; 0 if no whole packet has such a byte. Octet o of a packet is octet o % 4 of its word o / 4.
 pub fn text_byte(words: &[u32], offset: usize, at: TextPlace) -> u8
     ensures { λ r. ⌜ r ≡ byteAt (now (words .entry)) (14 - offset) at ⌝ }
 {
-    let p = at.packet.0;
     let b = at.byte.0;
-    if words.len() / 4 <= p {
+    if packets_of(words).0 <= at.packet.0 {
         return 0;
     }
     if 14 <= offset {
@@ -35,7 +36,8 @@ pub fn text_byte(words: &[u32], offset: usize, at: TextPlace) -> u8
         return 0;
     }
     let o = b + 2 + offset;
-    octet_of(words[p * 4 + o / 4], o % 4)
+    let k = first_word(at.packet).0 + o / 4;
+    octet_of(words[k], o % 4)
 }
 
 // The next place; after a packet's last byte comes byte 0 of the next packet.
@@ -87,8 +89,9 @@ pub fn step(words: &[u32], offset: usize, at: TextPlace) -> Stepped
     if 14 - offset <= at.byte.0 {
         return end_at(at);
     }
+    let packets = packets_of(words);
     let mut place = at;
-    while place.packet.0 < words.len() / 4 {
+    while place.packet.0 < packets.0 {
         let x = text_byte(words, offset, place);
         place = next_place(14 - offset, place);
         if x != 0 {

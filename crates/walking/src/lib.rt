@@ -1,31 +1,33 @@
 // Walks a stream of words: what stands at a position (the end, another type, a message or a refusal), and where the next one starts.
+pub mod helpers;
+
 ghost use mathlib.Core.Path.{_≡_};
 ghost use Prim.Native.Nat.{_<_};
-ghost use lib.Dec.{eqb};
 ghost use lib.ListN.{length};
+ghost use Rattle.counts.specs.Counts.{word};
 ghost use Rattle.standard.specs.Walk.{sizeOf, stepOf, frameOf, walkedOf, framedOf, otherOf, walkOf};
-ghost use Rattle.walking.specs.Other.{otherSize};
 use counts::PacketNumber;
 use counts::WordNumber;
+use counts::first_word;
 use kinds::refusal::Refusal;
-use reading::framed::read_framed;
 use reading::heads::format_of;
 use reading::heads::status_of;
 use reading::heads::type_of;
+use reading::helpers::read_framed;
 use records::answers::Read;
 use records::answers::Walked;
 use standard::Framed;
 use standard::Step;
 
 // The number of words in a message of this type.
-pub fn size_of(ump_type: u32) -> usize
-    ensures { λ r. ⌜ r ≡ sizeOf «ump_type» ⌝ }
+pub fn size_of(ump_type: u32) -> WordNumber
+    ensures { λ r. ⌜ r ≡ word (sizeOf «ump_type») ⌝ }
 {
     match ump_type {
-        0 | 1 | 2 | 6 | 7 => 1,
-        3 | 4 | 8 | 9 | 10 => 2,
-        11 | 12 => 3,
-        _ => 4,
+        0 | 1 | 2 | 6 | 7 => WordNumber(1),
+        3 | 4 | 8 | 9 | 10 => WordNumber(2),
+        11 | 12 => WordNumber(3),
+        _ => WordNumber(4),
     }
 }
 
@@ -82,45 +84,13 @@ fn frame(words: &[u32], pos: usize) -> Framed
     Framed::Broken(Refusal::TooManyPackets)
 }
 
-// Whether this type has one word (0, 1, 2, 6 or 7): one bit test for all five.
-fn is_one_word(ump_type: u32) -> bool
-    ensures { λ r. ⌜ r ≡ eqb (sizeOf «ump_type») 1 ⌝ }
-{
-    if ump_type < 16 {
-        return (0b1100_0111u32 >> ump_type) % 2 == 1;
-    }
-    false
-}
-
-// Fast path of stepping over another type: the words of its message if all are there, and 0 for any other answer of the walk.
-pub fn other_size(words: &[u32], position: WordNumber) -> usize
-    ensures { λ r. ⌜ r ≡ otherSize (now (words .entry)) (position .0) ⌝ }
-{
-    let pos = position.0;
-    if words.len() <= pos {
-        return 0;
-    }
-    let ump_type = type_of(words[pos]) as u32;
-    if is_one_word(ump_type) {
-        return 1;
-    }
-    if ump_type == 15 {
-        return 0;
-    }
-    let size = size_of(ump_type);
-    if words.len() - pos < size {
-        return 0;
-    }
-    size
-}
-
 // A message of another type, or refusal 1 if some of its words are missing.
 fn walk_other(ump_type: u32, words: &[u32], pos: usize) -> Walked
     requires { ⌜ pos < length (now words) ⌝ }
     ensures { λ r. ⌜ r ≡ otherOf «ump_type» (now (words .entry)) pos ⌝ }
 {
     let size = size_of(ump_type);
-    if words.len() - pos < size {
+    if words.len() - pos < size.0 {
         return Walked::Refused {
             refusal: Refusal::TooFewWords,
             next: WordNumber(words.len()),
@@ -128,8 +98,8 @@ fn walk_other(ump_type: u32, words: &[u32], pos: usize) -> Walked
     }
     Walked::Other {
         ump_type,
-        size: WordNumber(size),
-        next: WordNumber(pos + size),
+        size,
+        next: WordNumber(pos + size.0),
     }
 }
 
@@ -165,7 +135,7 @@ fn walk_framed(words: &[u32], pos: usize) -> Walked
             next: WordNumber(pos + 4),
         },
         Framed::Whole(n) => {
-            let after = pos + n.0 * 4;
+            let after = pos + first_word(n).0;
             walk_read(read_framed(&words[pos..after]), after)
         }
     }

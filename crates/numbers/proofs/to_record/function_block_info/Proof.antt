@@ -22,4 +22,4 @@ function-block-info-spec =
     (λ c. let h = small K.FunctionBlockInfo (c .before .before .before .before .before .before .before .before .before .before .pre) in omega (arith, h .1 .1 .1 .1 .1 .1 .0))
     (λ c. let h = small K.FunctionBlockInfo (c .before .before .before .before .before .before .before .before .before .before .before .pre) in omega (arith, h .1 .1 .1 .1 .1 .1 .1 .0))
     (λ c. let h = small K.FunctionBlockInfo (c .before .before .before .before .before .before .before .before .before .before .before .before .pre) in omega (arith, h .1 .1 .1 .1 .1 .1 .1 .1 .0))
-    (λ c. rw (c .before .before .before .before .before .before .before .before .hint-of .ensures, c .before .before .before .before .before .before .port-of .ensures, c .before .before .before .before .direction-of .ensures)))
+    (λ c. rw (c .before .before .before .before .before .before .before .before .hint-of-valid-code .ensures, c .before .before .before .before .before .before .port-of-valid-code .ensures, c .before .before .before .before .direction-of-valid-code .ensures)))

@@ -6,7 +6,7 @@ use Rattle.reading.proofs.from_words.function_block_info.Tie as tie
 
 returns : tie.Need-returns
 unfolding fromWords
-returns c = rw (c .before .before .before .before .before .before .before .before .before .before .before .bit .ensures, c .before .before .before .before .before .before .before .before .before .before .septet .ensures, c .before .before .before .before .before .before .before .before .hint-of .ensures, c .before .before .before .before .before .before .before .before .before .crumb .ensures, c .before .before .before .before .before .before .port-of .ensures, c .before .before .before .before .before .before .before .crumb2 .ensures, c .before .before .before .before .direction-of .ensures, c .before .before .before .before .before .crumb3 .ensures, c .before .before .before .nibble .ensures, c .before .before .octet .ensures, c .before .octet2 .ensures, c .octet3 .ensures)
+returns c = rw (c .before .before .before .before .before .before .before .before .before .before .before .bit .ensures, c .before .before .before .before .before .before .before .before .before .before .septet .ensures, c .before .before .before .before .before .before .before .before .hint-of-valid-code .ensures, c .before .before .before .before .before .before .before .before .before .crumb .ensures, c .before .before .before .before .before .before .port-of-valid-code .ensures, c .before .before .before .before .before .before .before .crumb2 .ensures, c .before .before .before .before .direction-of-valid-code .ensures, c .before .before .before .before .before .crumb3 .ensures, c .before .before .before .nibble .ensures, c .before .before .octet .ensures, c .before .octet2 .ensures, c .octet3 .ensures)
 
 pub function-block-info-spec : {M : Type 1} → statement M
 function-block-info-spec =

@@ -1,9 +1,13 @@
 -- `packet::first_end` meets its contract, by the laws of `First` of laws, turn by turn.
 use Prim.Native.Nat.{_-_, _≤_}
-use mathlib.Core.Path.{_≡_, sym, _∙_}
+use mathlib.Core.Path.{_≡_, sym, ap, _∙_}
 use native.Mathlib.Nat.{sub-zero}
+use native.Mathlib.Omega.{arith}
 use Rattle.laws.specs.First.{first, firstFrom}
 use Rattle.laws.proofs.First.{first-turn, first-hit, first-end}
+use Rattle.counts.specs.Counts.{packet}
+use Rattle.text.proofs.Heads.{head-in}
+use Rattle.standard.specs.Heads.{packetsOf}
 use Rattle.standard.specs.Packet.{endsMessage}
 use Rattle.reading.specs.Rules.{ends}
 use borrow.Author.Needs.{needs}
@@ -11,10 +15,10 @@ use Rattle.reading.proofs.packet.first_end.Statement.{statement}
 use Rattle.reading.proofs.packet.first_end.Tie as tie
 
 abbrev Inv-loop : tie.InvT-loop
-Inv-loop words n p₀ p = (p ≤ n) × (firstFrom (endsMessage words) (n - p) p ≡ first (endsMessage words) n)
+Inv-loop words n p₀ p = (p ≤ packetsOf words) × (firstFrom (endsMessage words) (packetsOf words - p) p ≡ first (endsMessage words) (packetsOf words))
 
 abbrev μ-loop : tie.MeasureT-loop
-μ-loop words n p₀ p = n - p
+μ-loop words n p₀ p = n .0 - p
 
 loop-holds : tie.Need-loop-holds Inv-loop μ-loop
 unfolding first
@@ -22,17 +26,22 @@ loop-holds c = (search needs, rw sub-zero)
 
 returns : tie.Need-returns Inv-loop μ-loop
 unfolding ends
-returns c = first-hit (endsMessage (c .before .before .before .before .before .before .args .words .now)) _ _ (c .before .before .before .loop-test .taken) (sym (c .before .ends-message .ensures) ∙ c .if1 .taken) ∙ c .before .before .before .before .loop .inv .1
+returns c =
+    let h = rw (c .before .before .before .before .before .before .packets-of .ensures) at (c .before .before .before .if1 .taken) in
+    let e = rw (c .before .before .head-at .ensures, head-in _ _ h) at (sym (c .before .ends-message .ensures) ∙ c .if2 .taken) in
+    ap packet (first-hit (endsMessage (c .before .before .before .before .before .before .before .before .args .words .now)) _ _ h e ∙ c .before .before .before .before .before .loop .inv .1)
 
 loop-again : tie.Need-loop-again Inv-loop μ-loop
 unfolding ends
-loop-again c = (search needs, first-turn (endsMessage (c .before .before .before .before .before .before .args .words .now)) _ _ (c .before .before .before .loop-test .taken) (sym (c .before .ends-message .ensures) ∙ c .if1 .left) ∙ c .before .before .before .before .loop .inv .1)
+loop-again c =
+    let h = rw (c .before .before .before .before .before .before .packets-of .ensures) at (c .before .before .before .if1 .taken) in
+    let e = rw (c .before .before .head-at .ensures, head-in _ _ h) at (sym (c .before .ends-message .ensures) ∙ c .if2 .left) in
+    (omega (arith, h), first-turn (endsMessage (c .before .before .before .before .before .before .before .before .args .words .now)) _ _ h e ∙ c .before .before .before .before .before .loop .inv .1)
 
 returns-2 : tie.Need-returns-2 Inv-loop μ-loop
-returns-2 c = first-end (endsMessage (c .before .before .before .args .words .now)) _ _ (c .loop-test .left) ∙ c .before .loop .inv .1
+returns-2 c = ap packet (first-end (endsMessage (c .before .before .before .before .before .args .words .now)) _ _ (rw (c .before .before .before .packets-of .ensures) at (c .if1 .left)) ∙ c .before .before .loop .inv .1)
 
 pub first-end-spec : {M : Type 1} → statement M
 first-end-spec =
-    tie.close (tie.spec Inv-loop μ-loop loop-holds (λ c. search needs) (λ c. search needs)
-    (λ c. search needs) (λ c κs. search needs) returns (λ c. search needs) (λ c. search needs)
-    loop-again returns-2)
+    tie.close (tie.spec Inv-loop μ-loop (λ c κs. search needs) loop-holds (λ c κs. search needs)
+    (λ c κs. search needs) returns (λ c. search needs) (λ c. search needs) loop-again returns-2)

@@ -11,7 +11,7 @@ pub due-format-spec : {M : Type 1} → statement M
 unfolding dueFormat
 due-format-spec =
     tie.close (tie.spec (λ c. here _ (le-leb _ _ (c .if1 .taken)) refl)
-    (λ c. past _ (lt-leb _ _ (c .before .if1 .left)) (here _ (eq-eqb _ _ (c .if2 .taken)) refl))
+    (λ c. past _ (lt-leb _ _ (c .before .before .if1 .left)) (here _ (eq-eqb _ _ (c .if2 .taken)) refl))
     (λ c. search needs)
-    (λ c. past _ (lt-leb _ _ (c .before .before .if1 .left)) (past _ (ne-eqb _ _ (c .before .if2 .left)) (here _ (lt-ltb _ _ (c .if3 .taken)) refl)))
-    (λ c. past _ (lt-leb _ _ (c .before .before .if1 .left)) (past _ (ne-eqb _ _ (c .before .if2 .left)) (past _ (le-ltb _ _ (c .if3 .left)) refl))))
+    (λ c. past _ (lt-leb _ _ (c .before .before .before .before .before .if1 .left)) (past _ (ne-eqb _ _ (c .before .before .before .if2 .left)) (here _ (lt-ltb _ _ (c .if3 .taken)) refl)))
+    (λ c. past _ (lt-leb _ _ (c .before .before .before .before .before .if1 .left)) (past _ (ne-eqb _ _ (c .before .before .before .if2 .left)) (past _ (le-ltb _ _ (c .if3 .left)) refl))))

@@ -12,10 +12,10 @@ returns-2 : tie.Need-returns-2
 returns-2 c = needed-without _ _ (λ e. omega arith) (c .if2 .taken)
 
 add-t6 : tie.Need-add-t6
-add-t6 c = omega (arith, packets-fit (c .before .before .args .capacity) (c .before .before .args .bytes) (λ e. omega arith))
+add-t6 c = omega (arith, packets-fit (c .before .before .before .before .args .capacity) (c .before .before .before .before .args .bytes .0) (λ e. omega arith))
 
 returns-3 : tie.Need-returns-3
-returns-3 c = needed-last _ _ (λ e. omega arith) (c .if2 .left)
+returns-3 c = needed-last _ _ (λ e. omega arith) (c .before .if2 .left)
 
 pub packets-needed-spec : {M : Type 1} → statement M
 packets-needed-spec =

@@ -1,7 +1,7 @@
--- `choices::hint_of` meets its contract, a code at a time.
+-- `choices::hint_of_valid_code` meets its contract, a code at a time.
 use borrow.Author.Tests.{ne-eqb}
-use Rattle.kinds.proofs.choices.hint_of.Statement.{statement}
-use Rattle.kinds.proofs.choices.hint_of.Tie as tie
+use Rattle.kinds.proofs.choices.hint_of_valid_code.Statement.{statement}
+use Rattle.kinds.proofs.choices.hint_of_valid_code.Tie as tie
 
 returns : tie.Need-returns
 returns c = rw (c .match .keys1)
@@ -15,6 +15,6 @@ returns-3 c = rw (c .match .keys3)
 returns-4 : tie.Need-returns-4
 returns-4 c = simp (ne-eqb _ _ (c .match .rest .0 .0 .1), ne-eqb _ _ (c .match .rest .0 .1), ne-eqb _ _ (c .match .rest .1))
 
-pub hint-of-spec : {M : Type 1} → statement M
-hint-of-spec =
+pub hint-of-valid-code-spec : {M : Type 1} → statement M
+hint-of-valid-code-spec =
     tie.close (tie.spec returns returns-2 returns-3 returns-4)

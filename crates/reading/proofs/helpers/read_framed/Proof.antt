@@ -1,11 +1,11 @@
--- `framed::read_framed` meets its contract: too few words, or what the first packet's status gives.
+-- `helpers::read_framed` meets its contract: too few words, or what the first packet's status gives.
 use mathlib.Core.Path.{refl}
 use borrow.Author.Tests.{lt-ltb, le-ltb}
 use Rattle.laws.proofs.Pick.{here, past}
 use Rattle.reading.specs.Framed.{framedRead}
 use borrow.Author.Needs.{needs}
-use Rattle.reading.proofs.framed.read_framed.Statement.{statement}
-use Rattle.reading.proofs.framed.read_framed.Tie as tie
+use Rattle.reading.proofs.helpers.read_framed.Statement.{statement}
+use Rattle.reading.proofs.helpers.read_framed.Tie as tie
 
 returns : tie.Need-returns
 unfolding framedRead

@@ -1,11 +1,11 @@
--- `one_pass::text_packets` meets its contract: by its row a kind has no text, or text that is seen.
+-- `helpers::text_packets` meets its contract: by its row a kind has no text, or text that is seen.
 use mathlib.Core.Path.{sym, ap, _∙_}
 use Rattle.counts.specs.Counts.{packet}
 use Rattle.reading.proofs.TextRows.{one-told, several-told, offset-one}
 use Rattle.reading.proofs.Passes.{text-seen}
 use borrow.Author.Needs.{needs}
-use Rattle.reading.proofs.one_pass.text_packets.Statement.{statement}
-use Rattle.reading.proofs.one_pass.text_packets.Tie as tie
+use Rattle.reading.proofs.helpers.text_packets.Statement.{statement}
+use Rattle.reading.proofs.helpers.text_packets.Tie as tie
 
 returns : tie.Need-returns
 returns c = rw (one-told (c .before .before .before .before .args .kind) (c .before .before .row-of .ensures) (c .if1 .taken))

@@ -1,8 +1,8 @@
--- `is_one_word` meets its contract: the mask has a bit for each type of one word.
+-- `helpers::is_one_word` meets its contract: the mask has a bit for each type of one word.
 use Rattle.walking.proofs.Other.{one-word-bit, one-word-not}
 use borrow.Author.Needs.{needs}
-use Rattle.walking.proofs.is_one_word.Statement.{statement}
-use Rattle.walking.proofs.is_one_word.Tie as tie
+use Rattle.walking.proofs.helpers.is_one_word.Statement.{statement}
+use Rattle.walking.proofs.helpers.is_one_word.Tie as tie
 
 returns : tie.Need-returns
 returns c = one-word-bit _ (c .if1 .taken)

@@ -4,8 +4,8 @@ use borrow.Author.Tests.{eqb-true}
 use Rattle.standard.specs.Walk.{sizeOf}
 use Rattle.walking.proofs.Other.{size-end, size-stream, size-short, size-whole, size-one}
 use borrow.Author.Needs.{needs}
-use Rattle.walking.proofs.other_size.Statement.{statement}
-use Rattle.walking.proofs.other_size.Tie as tie
+use Rattle.walking.proofs.helpers.other_size.Statement.{statement}
+use Rattle.walking.proofs.helpers.other_size.Tie as tie
 
 returns : tie.Need-returns
 returns c = size-end _ _ (c .if1 .taken)
