@@ -6,7 +6,8 @@
 
 mod captures;
 
-use captures::{block_name, capture, endpoint_name, text, ASCII, BLOCK_INFO, CAPTURES, JAPANESE, MOST};
+use captures::{block_name, capture, endpoint_name, text};
+use captures::{ASCII, BLOCK_INFO, CAPTURES, GREEK, JAPANESE, MOST, SYMBOLS};
 use oracle::timed as rust;
 use std::io::{Read, Write};
 use std::time::Instant;
@@ -126,13 +127,13 @@ fn step(name: &str, words: Vec<u32>) -> Case {
 const FRESH: [u32; 4] = [0xF003_0000, 0, 0, 0];
 
 /// Sets an endpoint name over a fresh one, or over itself; the library reads the message that it sets, and the text.
-fn set(name: &str, packets: usize, of: &str, fresh: bool) -> Case {
+fn set(name: &str, packets: usize, of: &str, fresh: bool, wanted: Option<f64>) -> Case {
     let text = text(of, packets * 14);
     let copy = text.clone();
     let (mut words, mut again) = (endpoint_name(packets, of), endpoint_name(packets, of));
     Case {
         name: format!("set an endpoint name, {}, over {}", name, if fresh { "a fresh one" } else { "itself" }),
-        wanted: Some(0.4),
+        wanted,
         words: None,
         ours: Box::new(move || {
             if fresh {
@@ -195,6 +196,16 @@ fn walk(of: &str, length: usize) -> Case {
 
 const LENGTHS: [usize; 4] = [1000, 2000, 4000, MOST];
 
+/// A text of each script, its name, and the most that its ratio is wanted to be: nothing is wanted of the last two.
+fn scripts(plain: f64, japanese: f64) -> [(&'static str, &'static str, Option<f64>); 4] {
+    [
+        (ASCII, "ASCII", Some(plain)),
+        (JAPANESE, "Japanese", Some(japanese)),
+        (GREEK, "Greek", None),
+        (SYMBOLS, "four-byte", None),
+    ]
+}
+
 /// Every case, in the order of the table; the first does nothing.
 fn cases() -> Vec<Case> {
     let nothing = || -> Call { Box::new(|| keep(keep(1))) };
@@ -206,9 +217,9 @@ fn cases() -> Vec<Case> {
         rust: Some(nothing()),
     }];
     for (packets, plain) in [(1, 0.5), (4, 0.2), (64, 0.2)] {
-        for (of, script, wanted) in [(ASCII, "ASCII", plain), (JAPANESE, "Japanese", 0.7)] {
+        for (of, script, wanted) in scripts(plain, 0.7) {
             let name = format!("read an endpoint name, {} {}", packets, script);
-            all.push(read(&name, endpoint_name(packets, of), Some(wanted)));
+            all.push(read(&name, endpoint_name(packets, of), wanted));
         }
     }
     all.push(read("read a block name, 64 ASCII", block_name(64, ASCII), Some(0.2)));
@@ -218,8 +229,8 @@ fn cases() -> Vec<Case> {
     all.push(step("step through text, 64 Japanese", endpoint_name(64, JAPANESE)));
     for fresh in [true, false] {
         for packets in [1, 4, 64] {
-            for (of, script) in [(ASCII, "ASCII"), (JAPANESE, "Japanese")] {
-                all.push(set(&format!("{} {}", packets, script), packets, of, fresh));
+            for (of, script, wanted) in scripts(0.4, 0.4) {
+                all.push(set(&format!("{} {}", packets, script), packets, of, fresh, wanted));
             }
         }
     }

@@ -6,6 +6,10 @@ pub const MOST: usize = 8192;
 pub const ASCII: &str = "Frayedbin Bench Probe, port 1 of 2; ";
 /// Three bytes a character.
 pub const JAPANESE: &str = "電子楽器のシンセサイザーとけんばん";
+/// Two bytes a character.
+pub const GREEK: &str = "ΗλεκτρικάΠλήκτραΚαιΣυνθεσάιζερ";
+/// Four bytes a character.
+pub const SYMBOLS: &str = "🎹🎸𝄞🎺🎻𝄢🥁";
 
 /// So many bytes of a text, over and over, or the whole characters that fit.
 pub fn text(of: &str, bytes: usize) -> String {

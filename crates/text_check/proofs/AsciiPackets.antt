@@ -1,4 +1,4 @@
--- ASCII text in packets is UTF-8: each packet leaves the check in state 0. If text is ASCII from octet 2 on, it is so from any later octet on: a smaller mask leaves fewer octets.
+-- ASCII text in packets is UTF-8: each packet leaves no character open. If text is ASCII from octet 2 on, it is so from any later octet on: a smaller mask leaves fewer octets.
 use Prim.Native.Nat.{ℕ, zero, suc, _+_, _-_, _*_, _/_, _%_, _^_, _≤_, _<_}
 use mathlib.Core.Path.{_≡_, sym}
 use mathlib.Core.Bool.{true, false}
@@ -16,7 +16,7 @@ use Rattle.utf8.specs.declared.Utf8.the-variants.{Good}
 use Rattle.text.specs.Octets.{octetOf}
 use Rattle.text.specs.Bytes.{textOf}
 use Rattle.text_check.specs.FastCheck.{afterWord, maskBits, textMask, asciiWord, asciiText, asciiTexts, asciiPacket}
-use Rattle.text_check.proofs.Due.{good-is}
+use Rattle.text_check.proofs.Places.{good-is}
 use Rattle.text_check.proofs.KnownSteps.{ascii-word-stays}
 use Rattle.text_check.proofs.MaskedWords.{octet-fewer, masked, AtPacket, packets-begin, packets-turn, packets-finish}
 

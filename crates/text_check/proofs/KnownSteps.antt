@@ -1,51 +1,78 @@
--- Steps whose next state is known without the tables: ASCII bytes and simple three-byte characters. Proved by computing a test for all 256 bytes.
-use Prim.Native.Nat.{ℕ, _+_, _%_, _<_}
-use mathlib.Core.Path.{_≡_, sym}
+-- Steps whose result a look tells: ASCII bytes and simple three-byte characters. Proved by computing a test for all 256 bytes.
+use Prim.Native.Nat.{ℕ, _+_, _-_, _/_, _%_, _<_}
+use mathlib.Core.Path.{_≡_, sym, ap, _∙_}
 use mathlib.Core.Bool.{Bool, true, false, _&&_}
+use native.Mathlib.Omega.{arith}
 use lib.Dec.{T, eqb, eqb→eq, ltb}
-use borrow.Author.Tests.{eqb-true}
+use borrow.Author.Tests.{eqb-true, ltb-true}
 use Rattle.laws.specs.Pick.{pick}
 use Rattle.laws.proofs.Pick.{true-false, split}
 use Rattle.laws.proofs.EachBelow.{eachBelow, each-at, and-left, and-right, and-l, and-r, three-hold, four-hold, five-hold, six-hold, implied, implied-holds}
+use Rattle.counts.specs.Counts.{byte}
+use Rattle.counts.specs.declared.TextByteNumber.{TextByteNumber}
+use Rattle.utf8.specs.Scan.{leadingOnes, lengthByOnes, charLength, secondLow, secondHigh, tailsDue, afterFirstByte, afterByte}
+use Rattle.utf8.specs.declared.scan.Scan.{Scan}
+use Rattle.utf8.specs.declared.scan.Scan.the-variants.{Going, Stopped}
 use Rattle.text.specs.Octets.{octetOf}
 use Rattle.text.proofs.Back.{octet-small}
-use Rattle.text_check.specs.FastCheck.{nextStates, tableStep, stepKeepingZeros, isE0ToEF, notE0OrED, simpleFirst, isTail, runOfTwo, firstThree, lastThree, runNoneDue, runOneDue, runTwoDue, runOfFour, runOfTwelve, afterWord, asciiWord}
+use Rattle.text_check.specs.FastCheck.{afterTextByte, scanOf, numberOf, isE0ToEF, notE0OrED, simpleFirst, isTail, runOfTwo, runOfHalf, firstThree, lastThree, runNoneDue, runOneDue, runTwoDue, runOfFour, runOfTwelve, afterOctets, afterWord, asciiWord}
 
 -- ---- one byte, with zeros dropped or kept
 
+-- so many tails are due
+abbrev pub tails : ℕ → Scan
+tails n = tailsDue n (byte 0)
+
+isTails : ℕ → Scan → Bool
+isTails n (Stopped m) = false
+isTails n (Going due low high start) = (eqb due n && eqb low 0x80) && (eqb high 0xBF && eqb (start .0) 0)
+
+is-tails : (n : ℕ) (k : Scan) → T (isTails n k) → k ≡ tails n
+unfolding isTails
+is-tails n (Stopped m) t = absurd t
+is-tails n (Going due low high start) t =
+    let front = and-left (eqb due n && eqb low 0x80) (eqb high 0xBF && eqb (start .0) 0) t in
+    let back = and-right (eqb due n && eqb low 0x80) (eqb high 0xBF && eqb (start .0) 0) t in
+    let d = eqb→eq due n (and-left (eqb due n) (eqb low 0x80) front) in
+    let l = eqb→eq low 0x80 (and-right (eqb due n) (eqb low 0x80) front) in
+    let h = eqb→eq high 0xBF (and-left (eqb high 0xBF) (eqb (start .0) 0) back) in
+    let s : start ≡ byte 0 = ap byte (eqb→eq (start .0) 0 (and-right (eqb high 0xBF) (eqb (start .0) 0) back)) in
+    rw (d, l, h, s)
+
+-- byte b leads from `s` tails due to `next`, whether zeros are dropped or kept
 pub record Leads (s b next : ℕ) : Type 0 where
-  pub dropping : tableStep s b ≡ next
-  pub keeping : stepKeepingZeros s b ≡ next
+  pub dropping : afterTextByte (tails s) b ≡ tails next
+  pub keeping : afterByte (tails s) (byte 0) b ≡ tails next
 
 -- if the condition holds for b, both kinds of step lead from s to `next`
 lead-test : (ℕ → Bool) → ℕ → ℕ → ℕ → Bool
-lead-test cond s next b = implied (cond b) (eqb (tableStep s b) next && eqb (stepKeepingZeros s b) next)
+lead-test cond s next b = implied (cond b) (isTails next (afterTextByte (tails s) b) && isTails next (afterByte (tails s) (byte 0) b))
 
 leads : (cond : ℕ → Bool) (s next : ℕ) → T (eachBelow (lead-test cond s next) 256) → (b : ℕ) → b < 256 → cond b ≡ true → Leads s b next
 unfolding lead-test
 leads cond s next all b l e =
-    let f = eqb (tableStep s b) next in
-    let g = eqb (stepKeepingZeros s b) next in
+    let f = isTails next (afterTextByte (tails s) b) in
+    let g = isTails next (afterByte (tails s) (byte 0) b) in
     let t = implied-holds (cond b) (f && g) e (each-at (lead-test cond s next) 256 all b l) in
-    record { dropping = eqb→eq (tableStep s b) next (and-left f g t); keeping = eqb→eq (stepKeepingZeros s b) next (and-right f g t) }
+    record { dropping = is-tails next (afterTextByte (tails s) b) (and-left f g t); keeping = is-tails next (afterByte (tails s) (byte 0) b) (and-right f g t) }
 
--- an ASCII byte leaves state 0 as it is
+-- an ASCII byte leaves no tail due
 ascii-stays : (b : ℕ) → b < 256 → ltb b 128 ≡ true → Leads 0 b 0
-unfolding lead-test stepKeepingZeros tableStep nextStates
+unfolding lead-test isTails afterTextByte afterByte afterFirstByte charLength lengthByOnes leadingOnes secondLow secondHigh
 ascii-stays = leads (λ b. ltb b 128) 0 0 tt
 
--- a simple three-byte character: its first byte leads from 0 to 12, its tails lead to 6 and back to 0
-opens : (b : ℕ) → b < 256 → simpleFirst b ≡ true → Leads 0 b 12
-unfolding lead-test stepKeepingZeros tableStep nextStates
-opens = leads simpleFirst 0 12 tt
+-- a simple three-byte character: two tails are due after its first byte, then one, then none
+opens : (b : ℕ) → b < 256 → simpleFirst b ≡ true → Leads 0 b 2
+unfolding lead-test isTails afterTextByte afterByte afterFirstByte charLength lengthByOnes leadingOnes secondLow secondHigh
+opens = leads simpleFirst 0 2 tt
 
-tail-first : (b : ℕ) → b < 256 → isTail b ≡ true → Leads 12 b 6
-unfolding lead-test stepKeepingZeros tableStep nextStates
-tail-first = leads isTail 12 6 tt
+tail-first : (b : ℕ) → b < 256 → isTail b ≡ true → Leads 2 b 1
+unfolding lead-test isTails afterTextByte afterByte afterFirstByte charLength lengthByOnes leadingOnes secondLow secondHigh
+tail-first = leads isTail 2 1 tt
 
-tail-last : (b : ℕ) → b < 256 → isTail b ≡ true → Leads 6 b 0
-unfolding lead-test stepKeepingZeros tableStep nextStates
-tail-last = leads isTail 6 0 tt
+tail-last : (b : ℕ) → b < 256 → isTail b ≡ true → Leads 1 b 0
+unfolding lead-test isTails afterTextByte afterByte afterFirstByte charLength lengthByOnes leadingOnes secondLow secondHigh
+tail-last = leads isTail 1 0 tt
 
 -- ---- the octets of a word
 
@@ -54,23 +81,23 @@ module _ (w : ℕ) where
   octet-ascii : (j : ℕ) → ltb (octetOf w j) 128 ≡ true → Leads 0 (octetOf w j) 0
   octet-ascii j e = ascii-stays (octetOf w j) (octet-small w j) e
 
-  octet-opens : (j : ℕ) → isE0ToEF (octetOf w j) ≡ true → notE0OrED (octetOf w j) ≡ true → Leads 0 (octetOf w j) 12
+  octet-opens : (j : ℕ) → isE0ToEF (octetOf w j) ≡ true → notE0OrED (octetOf w j) ≡ true → Leads 0 (octetOf w j) 2
   octet-opens j e f = opens (octetOf w j) (octet-small w j) (rw (e, f))
 
-  octet-first : (j : ℕ) → isTail (octetOf w j) ≡ true → Leads 12 (octetOf w j) 6
+  octet-first : (j : ℕ) → isTail (octetOf w j) ≡ true → Leads 2 (octetOf w j) 1
   octet-first j e = tail-first (octetOf w j) (octet-small w j) e
 
-  octet-last : (j : ℕ) → isTail (octetOf w j) ≡ true → Leads 6 (octetOf w j) 0
+  octet-last : (j : ℕ) → isTail (octetOf w j) ≡ true → Leads 1 (octetOf w j) 0
   octet-last j e = tail-last (octetOf w j) (octet-small w j) e
 
--- the states before and after each of the four octets
+-- the tails due before and after each of the four octets
 pub record WordSteps (w s₀ s₁ s₂ s₃ s₄ : ℕ) : Type 0 where
   pub first : Leads s₀ (octetOf w 0) s₁
   pub second : Leads s₁ (octetOf w 1) s₂
   pub third : Leads s₂ (octetOf w 2) s₃
   pub fourth : Leads s₃ (octetOf w 3) s₄
 
-word-steps : {w s₀ s₁ s₂ s₃ s₄ : ℕ} → WordSteps w s₀ s₁ s₂ s₃ s₄ → afterWord s₀ w ≡ s₄
+word-steps : {w s₀ s₁ s₂ s₃ s₄ : ℕ} → WordSteps w s₀ s₁ s₂ s₃ s₄ → afterOctets (tails s₀) w ≡ tails s₄
 word-steps k = rw (k .first .dropping, k .second .dropping, k .third .dropping) (k .fourth .dropping)
 
 module _ (w : ℕ) where
@@ -80,72 +107,128 @@ module _ (w : ℕ) where
       let t = four-hold (ltb (octetOf w 0) 128) (ltb (octetOf w 1) 128) (ltb (octetOf w 2) 128) (ltb (octetOf w 3) 128) e in
       record { first = octet-ascii w 0 (t .0); second = octet-ascii w 1 (t .1); third = octet-ascii w 2 (t .2); fourth = octet-ascii w 3 (t .3) }
 
-  pub none-due-steps : runNoneDue w ≡ true → WordSteps w 0 12 6 0 12
+  pub none-due-steps : runNoneDue w ≡ true → WordSteps w 0 2 1 0 2
   unfolding runNoneDue
   none-due-steps e =
       let t = six-hold (isE0ToEF (octetOf w 0)) (isTail (octetOf w 1)) (isTail (octetOf w 2)) (isE0ToEF (octetOf w 3)) (notE0OrED (octetOf w 0)) (notE0OrED (octetOf w 3)) e in
       record { first = octet-opens w 0 (t .0) (t .4); second = octet-first w 1 (t .1); third = octet-last w 2 (t .2); fourth = octet-opens w 3 (t .3) (t .5) }
 
-  pub one-due-steps : runOneDue w ≡ true → WordSteps w 6 0 12 6 0
+  pub one-due-steps : runOneDue w ≡ true → WordSteps w 1 0 2 1 0
   unfolding runOneDue
   one-due-steps e =
       let t = five-hold (isTail (octetOf w 0)) (isE0ToEF (octetOf w 1)) (isTail (octetOf w 2)) (isTail (octetOf w 3)) (notE0OrED (octetOf w 1)) e in
       record { first = octet-last w 0 (t .0); second = octet-opens w 1 (t .1) (t .4); third = octet-first w 2 (t .2); fourth = octet-last w 3 (t .3) }
 
-  pub two-due-steps : runTwoDue w ≡ true → WordSteps w 12 6 0 12 6
+  pub two-due-steps : runTwoDue w ≡ true → WordSteps w 2 1 0 2 1
   unfolding runTwoDue
   two-due-steps e =
       let t = five-hold (isTail (octetOf w 0)) (isTail (octetOf w 1)) (isE0ToEF (octetOf w 2)) (isTail (octetOf w 3)) (notE0OrED (octetOf w 2)) e in
       record { first = octet-first w 0 (t .0); second = octet-last w 1 (t .1); third = octet-opens w 2 (t .2) (t .4); fourth = octet-first w 3 (t .3) }
 
   -- a simple three-byte character in the first three octets, or in the last three
-  pub first-three-steps : firstThree w ≡ true → Leads 0 (octetOf w 0) 12 × Leads 12 (octetOf w 1) 6 × Leads 6 (octetOf w 2) 0
+  pub first-three-steps : firstThree w ≡ true → Leads 0 (octetOf w 0) 2 × Leads 2 (octetOf w 1) 1 × Leads 1 (octetOf w 2) 0
   unfolding firstThree
   first-three-steps e =
       let t = four-hold (isE0ToEF (octetOf w 0)) (isTail (octetOf w 1)) (isTail (octetOf w 2)) (notE0OrED (octetOf w 0)) e in
       (octet-opens w 0 (t .0) (t .3), octet-first w 1 (t .1), octet-last w 2 (t .2))
 
-  pub last-three-steps : lastThree w ≡ true → Leads 0 (octetOf w 1) 12 × Leads 12 (octetOf w 2) 6 × Leads 6 (octetOf w 3) 0
+  pub last-three-steps : lastThree w ≡ true → Leads 0 (octetOf w 1) 2 × Leads 2 (octetOf w 2) 1 × Leads 1 (octetOf w 3) 0
   unfolding lastThree
   last-three-steps e =
       let t = four-hold (isE0ToEF (octetOf w 1)) (isTail (octetOf w 2)) (isTail (octetOf w 3)) (notE0OrED (octetOf w 1)) e in
       (octet-opens w 1 (t .0) (t .3), octet-first w 2 (t .1), octet-last w 3 (t .2))
 
-  pub ascii-word-stays : asciiWord w ≡ true → afterWord 0 w ≡ 0
-  ascii-word-stays e = word-steps (ascii-steps e)
+-- ---- where none, one or two tails are due
 
--- ---- from any of the states 0, 6 and 12
-
--- case analysis for a test that holds only from the states 0, 6 and 12
-from-three : {A : Type 0} (s : ℕ) (a b c : Bool) → pick (eqb s 0) a (pick (eqb s 6) b (pick (eqb s 12) c false)) ≡ true → (s ≡ 0 → a ≡ true → A) → (s ≡ 6 → b ≡ true → A) → (s ≡ 12 → c ≡ true → A) → A
+-- case analysis for a test that holds only there
+from-three : {A : Type 0} (s : ℕ) (a b c : Bool) → pick (eqb s 0) a (pick (eqb s 1) b (pick (eqb s 2) c false)) ≡ true → (s ≡ 0 → a ≡ true → A) → (s ≡ 1 → b ≡ true → A) → (s ≡ 2 → c ≡ true → A) → A
 from-three s a b c e none one two =
     split (eqb s 0) (λ x. none (eqb-true s 0 x) (rw x at e))
-    (λ x. split (eqb s 6) (λ y. one (eqb-true s 6 y) (rw (x, y) at e))
-    (λ y. split (eqb s 12) (λ z. two (eqb-true s 12 z) (rw (x, y, z) at e)) (λ z. true-false (sym (rw (x, y, z) at e)))))
+    (λ x. split (eqb s 1) (λ y. one (eqb-true s 1 y) (rw (x, y) at e))
+    (λ y. split (eqb s 2) (λ z. two (eqb-true s 2 z) (rw (x, y, z) at e)) (λ z. true-false (sym (rw (x, y, z) at e)))))
 
--- two bytes of a run advance the state by two of its three positions
-pub two-lead : (s a b : ℕ) → a < 256 → b < 256 → runOfTwo s a b ≡ true → tableStep (tableStep s a) b ≡ (s + 6) % 18
+-- two bytes of a run
+record TwoSteps (s a b : ℕ) : Type 0 where
+  few : s < 3
+  two : afterTextByte (afterTextByte (tails s) a) b ≡ tails ((s + 1) % 3)
+
+two-steps : (s a b : ℕ) → a < 256 → b < 256 → runOfTwo s a b ≡ true → TwoSteps s a b
 unfolding runOfTwo
-two-lead s a b la lb e =
+two-steps s a b la lb e =
     from-three s (simpleFirst a && isTail b) (isTail a && simpleFirst b) (isTail a && isTail b) e
-    (λ x t. rw (x, opens a la (and-l (simpleFirst a) (isTail b) t) .dropping) (tail-first b lb (and-r (simpleFirst a) (isTail b) t) .dropping))
-    (λ x t. rw (x, tail-last a la (and-l (isTail a) (simpleFirst b) t) .dropping) (opens b lb (and-r (isTail a) (simpleFirst b) t) .dropping))
-    (λ x t. rw (x, tail-first a la (and-l (isTail a) (isTail b) t) .dropping) (tail-last b lb (and-r (isTail a) (isTail b) t) .dropping))
+    (λ x t. record { few = omega arith; two = rw (x, opens a la (and-l (simpleFirst a) (isTail b) t) .dropping) (tail-first b lb (and-r (simpleFirst a) (isTail b) t) .dropping) })
+    (λ x t. record { few = omega arith; two = rw (x, tail-last a la (and-l (isTail a) (simpleFirst b) t) .dropping) (opens b lb (and-r (isTail a) (simpleFirst b) t) .dropping) })
+    (λ x t. record { few = omega arith; two = rw (x, tail-first a la (and-l (isTail a) (isTail b) t) .dropping) (tail-last b lb (and-r (isTail a) (isTail b) t) .dropping) })
 
--- four bytes advance it by four positions
-pub four-lead : (s w : ℕ) → runOfFour s w ≡ true → afterWord s w ≡ (s + 12) % 18
+-- ---- the same, from number to number
+
+few-scan : (s : ℕ) → s < 3 → scanOf s ≡ tails s
+unfolding scanOf
+few-scan s h =
+    let d : s % 0x100 ≡ s = omega arith in
+    let l : 0x80 + s / 0x100 % 0x80 ≡ 0x80 = omega arith in
+    let g : 0xBF - s / 0x10000 % 0x40 ≡ 0xBF = omega arith in
+    rw (d, l, g)
+
+tails-number : (n : ℕ) → numberOf (tails n) ≡ n
+unfolding numberOf
+tails-number n = omega arith
+
+-- a word whose result a look tells: few tails were due, and t are due after it
+pub record Known (s w t : ℕ) : Type 0 where
+  pub few : s < 3
+  pub after : afterWord s w ≡ t
+
+known : {s w t : ℕ} → s < 3 → afterOctets (tails s) w ≡ tails t → Known s w t
+unfolding afterWord
+known {s} {w} {t} h e = record { few = h; after = ap (λ (k : Scan). numberOf (afterOctets k w)) (few-scan s h) ∙ ap numberOf e ∙ tails-number t }
+
+pub ascii-word-stays : (w : ℕ) → asciiWord w ≡ true → afterWord 0 w ≡ 0
+ascii-word-stays w e = known {s = 0} {w = w} {t = 0} (omega arith) (word-steps (ascii-steps w e)) .after
+
+-- two bytes of a run in a half of a word, where the other half is zero
+zero-dropped : (k : Scan) (b : ℕ) → b ≡ 0 → afterTextByte k b ≡ k
+unfolding afterTextByte
+zero-dropped k b e = rw e
+
+first-zero : (w : ℕ) → w < 0x10000 → (octetOf w 0 ≡ 0) × (octetOf w 1 ≡ 0)
+unfolding octetOf
+first-zero w h = (omega arith, omega arith)
+
+last-zero : (w : ℕ) → w % 0x10000 ≡ 0 → (octetOf w 2 ≡ 0) × (octetOf w 3 ≡ 0)
+unfolding octetOf
+last-zero w h = (omega arith, omega arith)
+
+pub half-known : (s w : ℕ) → runOfHalf s w ≡ true → Known s w ((s + 1) % 3)
+unfolding runOfHalf
+half-known s w e =
+    split (ltb w 0x10000) (λ x.
+    let z = first-zero w (ltb-true w 0x10000 x) in
+    let k = two-steps s (octetOf w 2) (octetOf w 3) (octet-small w 2) (octet-small w 3) (rw x at e) in
+    known (k .few) (rw (zero-dropped (tails s) (octetOf w 0) (z .0), zero-dropped (tails s) (octetOf w 1) (z .1)) (k .two)))
+    (λ x. split (eqb (w % 0x10000) 0) (λ y.
+    let z = last-zero w (eqb-true (w % 0x10000) 0 y) in
+    let k = two-steps s (octetOf w 0) (octetOf w 1) (octet-small w 0) (octet-small w 1) (rw (x, y) at e) in
+    known (k .few) (zero-dropped _ (octetOf w 3) (z .1) ∙ zero-dropped _ (octetOf w 2) (z .0) ∙ k .two))
+    (λ y. true-false (sym (rw (x, y) at e))))
+
+-- four bytes of a run
+pub four-known : (s w : ℕ) → runOfFour s w ≡ true → Known s w ((s + 2) % 3)
 unfolding runOfFour
-four-lead s w e =
+four-known s w e =
     from-three s (runNoneDue w) (runOneDue w) (runTwoDue w) e
-    (λ x t. rw x (word-steps (none-due-steps w t)))
-    (λ x t. rw x (word-steps (one-due-steps w t)))
-    (λ x t. rw x (word-steps (two-due-steps w t)))
+    (λ x t. rw x (known (omega arith) (word-steps (none-due-steps w t))))
+    (λ x t. rw x (known (omega arith) (word-steps (one-due-steps w t))))
+    (λ x t. rw x (known (omega arith) (word-steps (two-due-steps w t))))
 
--- twelve bytes lead back to the same state
-pub twelve-lead : (s a b c : ℕ) → runOfTwelve s a b c ≡ true → afterWord (afterWord (afterWord s a) b) c ≡ s
+-- twelve bytes of a run lead back
+step : (s t w : ℕ) → s < 3 → afterOctets (tails s) w ≡ tails t → afterWord s w ≡ t
+step s t w h e = known h e .after
+
+pub twelve-known : (s a b c : ℕ) → runOfTwelve s a b c ≡ true → afterWord (afterWord (afterWord s a) b) c ≡ s
 unfolding runOfTwelve
-twelve-lead s a b c e =
+twelve-known s a b c e =
     from-three s (runNoneDue a && (runTwoDue b && runOneDue c)) (runOneDue a && (runNoneDue b && runTwoDue c)) (runTwoDue a && (runOneDue b && runNoneDue c)) e
-    (λ x t. let u = three-hold (runNoneDue a) (runTwoDue b) (runOneDue c) t in rw (x, word-steps (none-due-steps a (u .0)), word-steps (two-due-steps b (u .1)), word-steps (one-due-steps c (u .2))))
-    (λ x t. let u = three-hold (runOneDue a) (runNoneDue b) (runTwoDue c) t in rw (x, word-steps (one-due-steps a (u .0)), word-steps (none-due-steps b (u .1)), word-steps (two-due-steps c (u .2))))
-    (λ x t. let u = three-hold (runTwoDue a) (runOneDue b) (runNoneDue c) t in rw (x, word-steps (two-due-steps a (u .0)), word-steps (one-due-steps b (u .1)), word-steps (none-due-steps c (u .2))))
+    (λ x t. let u = three-hold (runNoneDue a) (runTwoDue b) (runOneDue c) t in rw (x, step 0 2 a (omega arith) (word-steps (none-due-steps a (u .0))), step 2 1 b (omega arith) (word-steps (two-due-steps b (u .1))), step 1 0 c (omega arith) (word-steps (one-due-steps c (u .2)))))
+    (λ x t. let u = three-hold (runOneDue a) (runNoneDue b) (runTwoDue c) t in rw (x, step 1 0 a (omega arith) (word-steps (one-due-steps a (u .0))), step 0 2 b (omega arith) (word-steps (none-due-steps b (u .1))), step 2 1 c (omega arith) (word-steps (two-due-steps c (u .2)))))
+    (λ x t. let u = three-hold (runTwoDue a) (runOneDue b) (runNoneDue c) t in rw (x, step 2 1 a (omega arith) (word-steps (two-due-steps a (u .0))), step 1 0 b (omega arith) (word-steps (one-due-steps b (u .1))), step 0 2 c (omega arith) (word-steps (none-due-steps c (u .2)))))

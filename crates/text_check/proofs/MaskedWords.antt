@@ -18,8 +18,9 @@ use Rattle.utf8.specs.Utf8.{firstBad}
 use Rattle.text.specs.Octets.{octetOf}
 use Rattle.text.specs.Bytes.{textByte, allBytes, textOf}
 use Rattle.text.proofs.Bytes.{bytesFrom, bytes-packet}
-use Rattle.text_check.specs.FastCheck.{isGood, maskBits, textMask, afterWord}
-use Rattle.text_check.proofs.Progress.{WillAnswer, answer-start, answer-end, answer-word}
+use Rattle.text_check.specs.FastCheck.{isGood, scanOf, maskBits, textMask, afterWord}
+use Rattle.text_check.proofs.Progress.{WillAnswer, answer-start}
+use Rattle.text_check.proofs.Numbers.{answer-word, answer-last}
 
 -- ---- a word with only its last n octets kept
 
@@ -104,10 +105,11 @@ module _ (ws : List ℕ) (offset : ℕ) where
 
   -- the check has reached packet p of n, and its answer will be right
   abbrev pub AtPacket : ℕ → ℕ → ℕ → Type 0
-  AtPacket s p n = WillAnswer s (nonzero (maskedFrom ws offset p (n - p))) (isGood (firstBad (textOf ws (14 - offset) n)))
+  AtPacket s p n = WillAnswer (scanOf s) (nonzero (maskedFrom ws offset p (n - p))) (isGood (firstBad (textOf ws (14 - offset) n)))
 
   pub packets-begin : (n : ℕ) → AtPacket 0 0 n
-  packets-begin n = rw (sub-zero, masked-text n) (answer-start (textOf ws (14 - offset) n))
+  unfolding scanOf
+  packets-begin n = rw (sub-zero n, masked-text n) (answer-start (textOf ws (14 - offset) n))
 
   pub packets-turn : (s p n : ℕ) → p < n → AtPacket s p n → AtPacket (afterWord (afterWord (afterWord (afterWord s (bitAnd (getD ws (p * 4) 0) (textMask 2 offset))) (bitAnd (getD ws (p * 4 + 1) 0) (textMask 6 offset))) (bitAnd (getD ws (p * 4 + 2) 0) (textMask 10 offset))) (bitAnd (getD ws (p * 4 + 3) 0) (textMask 14 offset))) (p + 1) n
   unfolding tabulate
@@ -116,8 +118,8 @@ module _ (ws : List ℕ) (offset : ℕ) where
       let q : p + 1 ≡ suc p = omega arith in
       let first = masked (getD ws (p * 4) 0) 2 offset ∙ ap (λ (k : ℕ). getD ws k 0 % 2 ^ maskBits (2 - offset)) (sym (add-zero (p * 4))) in
       rw (q, first, masked (getD ws (p * 4 + 1) 0) 6 offset, masked (getD ws (p * 4 + 2) 0) 10 offset, masked (getD ws (p * 4 + 3) 0) 14 offset)
-      (answer-word (maskedWord ws offset p 3) _ (answer-word (maskedWord ws offset p 2) _ (answer-word (maskedWord ws offset p 1) _ (answer-word (maskedWord ws offset p 0) _ (rw m at st)))))
+      (answer-word _ (maskedWord ws offset p 3) _ (answer-word _ (maskedWord ws offset p 2) _ (answer-word _ (maskedWord ws offset p 1) _ (answer-word s (maskedWord ws offset p 0) _ (rw m at st)))))
 
-  pub packets-finish : (s p n : ℕ) → n ≤ p → AtPacket s p n → eqb s 0 ≡ isGood (firstBad (textOf ws (14 - offset) n))
+  pub packets-finish : (s p n : ℕ) → n ≤ p → AtPacket s p n → eqb (s % 0x100) 0 ≡ isGood (firstBad (textOf ws (14 - offset) n))
   unfolding nonzero
-  packets-finish s p n h st = let z : n - p ≡ 0 = omega arith in answer-end s _ (rw z at st)
+  packets-finish s p n h st = let z : n - p ≡ 0 = omega arith in answer-last s _ (rw z at st)

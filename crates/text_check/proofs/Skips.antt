@@ -1,50 +1,51 @@
 -- Bytes of a given text that may be skipped because they are whole characters. Proved with `WillAnswer` at the bytes that remain.
 use Prim.Native.Nat.{ℕ, _+_, _≤_, _<_}
-use mathlib.Core.Path.{_≡_, refl, sym, ap, _∙_}
+use mathlib.Core.Path.{_≡_, refl, sym, _∙_}
 use mathlib.Core.Logic.{⊎-elim}
 use mathlib.Core.Bool.{Bool, true}
 use mathlib.Core.List.{List}
 use native.Mathlib.Nat.{add-zero}
 use native.Mathlib.Numerals.{add-one}
 use native.Mathlib.Omega.{arith}
-use lib.Dec.{eqb, lit≤}
+use lib.Dec.{lit≤}
 use lib.ListN.{length, getD, drop, drop-of-length-le}
 use lib.Seq.{drop-cons}
 use Rattle.laws.proofs.Pick.{split, below}
 use Rattle.laws.proofs.EachBelow.{three-hold}
+use Rattle.counts.specs.Counts.{byte}
 use Rattle.utf8.specs.Utf8.{firstBad}
+use Rattle.utf8.specs.Scan.{afterByte}
+use Rattle.utf8.specs.declared.scan.Scan.{Scan}
 use Rattle.text.specs.Octets.{octetOf}
 use Rattle.text.proofs.Back.{octet-word}
 use Rattle.text.specs.BigEndian.{bigEndianAt}
 use Rattle.text.proofs.BigEndian.{big-endian-in}
-use Rattle.text_check.specs.FastCheck.{isGood, asciiWord, stepKeepingZeros, firstThree, lastThree, runNoneDue, runOneDue, runTwoDue, runAt, wholeCharacters, Skipped}
-use Rattle.text_check.proofs.Due.{Due, passes, good-passes}
-use Rattle.text_check.proofs.States.{due-zero}
-use Rattle.text_check.proofs.KnownSteps.{Leads, WordSteps, ascii-steps, none-due-steps, one-due-steps, two-due-steps, first-three-steps, last-three-steps}
-use Rattle.text_check.proofs.Progress.{WillAnswer, answer-start, answer-end, answer-keeping}
+use Rattle.text_check.specs.FastCheck.{isGood, noneOpen, asciiWord, firstThree, lastThree, runNoneDue, runOneDue, runTwoDue, runAt, wholeCharacters, Skipped}
+use Rattle.text_check.proofs.KnownSteps.{tails, Leads, WordSteps, ascii-steps, none-due-steps, one-due-steps, two-due-steps, first-three-steps, last-three-steps}
+use Rattle.text_check.proofs.Progress.{WillAnswer, answer-start, answer-end, answer-open, answer-keeping}
 
 module _ (text : List ℕ) (v : Bool) where
-  -- the check has reached byte i in state s, and will answer v
-  abbrev pub AtByte : ℕ → ℕ → Type 0
-  AtByte s i = WillAnswer s (drop i text) v
+  -- the check has reached byte i with scan k, and will answer v
+  abbrev pub AtByte : Scan → ℕ → Type 0
+  AtByte k i = WillAnswer k (drop i text) v
 
-  pub bytes-finish : (s i : ℕ) → length text ≤ i → AtByte s i → eqb s 0 ≡ v
-  bytes-finish s i h st = answer-end s _ (rw (drop-of-length-le text h) at st)
+  pub bytes-finish : (k : Scan) (i : ℕ) → length text ≤ i → AtByte k i → noneOpen k ≡ v
+  bytes-finish k i h st = answer-end k _ (rw (drop-of-length-le text h) at st)
 
-  -- in state 0 the answer is the verdict on the remaining bytes
-  open-none : (i : ℕ) → isGood (firstBad (drop i text)) ≡ v → AtByte 0 i
-  open-none i e = rw e at (answer-start (drop i text))
+  -- where no character is open, the answer is the verdict on the remaining bytes
+  open-none : (k : Scan) (i : ℕ) → noneOpen k ≡ true → isGood (firstBad (drop i text)) ≡ v → AtByte k i
+  open-none k i o e = record { answer = answer-open k (drop i text) o ∙ e }
 
-  none-open : (i : ℕ) → AtByte 0 i → isGood (firstBad (drop i text)) ≡ v
-  none-open i st = good-passes (drop i text) ∙ ap (λ (o : Due). passes o (drop i text)) (sym due-zero) ∙ st .answer
+  none-open : (k : Scan) (i : ℕ) → noneOpen k ≡ true → AtByte k i → isGood (firstBad (drop i text)) ≡ v
+  none-open k i o st = sym (answer-open k (drop i text) o) ∙ st .answer
 
   module _ (small : (k : ℕ) → getD text k 0 < 256) where
-    pub bytes-turn : (s i : ℕ) → i < length text → AtByte s i → AtByte (stepKeepingZeros s (getD text i 0)) (i + 1)
-    bytes-turn s i h st = rw add-one (answer-keeping (getD text i 0) (small i) (rw (drop-cons text i 0 h) at st))
+    pub bytes-turn : (k : Scan) (i : ℕ) → i < length text → AtByte k i → AtByte (afterByte k (byte 0) (getD text i 0)) (i + 1)
+    bytes-turn k i h st = rw add-one (answer-keeping (getD text i 0) (small i) (rw (drop-cons text i 0 h) at st))
 
-    -- a byte whose next state is known
-    known : (s t i : ℕ) → i < length text → stepKeepingZeros s (getD text i 0) ≡ t → AtByte s i → AtByte t (i + 1)
-    known s t i h e st = rw e at (bytes-turn s i h st)
+    -- a byte after which a look tells how many tails are due
+    known : (s t i : ℕ) → i < length text → afterByte (tails s) (byte 0) (getD text i 0) ≡ tails t → AtByte (tails s) i → AtByte (tails t) (i + 1)
+    known s t i h e st = rw e at (bytes-turn (tails s) i h st)
 
     module _ (i : ℕ) (h : i + 4 ≤ length text) where
       abbrev w : ℕ
@@ -63,29 +64,29 @@ module _ (text : List ℕ) (v : Bool) where
       e₄ = omega arith
 
       -- one of the four bytes of a word
-      first-turn : {s t : ℕ} → Leads s (octetOf w 0) t → AtByte s i → AtByte t (i + 1)
+      first-turn : {s t : ℕ} → Leads s (octetOf w 0) t → AtByte (tails s) i → AtByte (tails t) (i + 1)
       first-turn {s} {t} k st = known s t i (omega arith) (rw (octets .0) at (k .keeping)) st
 
-      second-turn : {s t : ℕ} → Leads s (octetOf w 1) t → AtByte s (i + 1) → AtByte t (i + 2)
+      second-turn : {s t : ℕ} → Leads s (octetOf w 1) t → AtByte (tails s) (i + 1) → AtByte (tails t) (i + 2)
       second-turn {s} {t} k st = rw e₂ at (known s t (i + 1) (omega arith) (rw (octets .1) at (k .keeping)) st)
 
-      third-turn : {s t : ℕ} → Leads s (octetOf w 2) t → AtByte s (i + 2) → AtByte t (i + 3)
+      third-turn : {s t : ℕ} → Leads s (octetOf w 2) t → AtByte (tails s) (i + 2) → AtByte (tails t) (i + 3)
       third-turn {s} {t} k st = rw e₃ at (known s t (i + 2) (omega arith) (rw (octets .2) at (k .keeping)) st)
 
-      fourth-turn : {s t : ℕ} → Leads s (octetOf w 3) t → AtByte s (i + 3) → AtByte t (i + 4)
+      fourth-turn : {s t : ℕ} → Leads s (octetOf w 3) t → AtByte (tails s) (i + 3) → AtByte (tails t) (i + 4)
       fourth-turn {s} {t} k st = rw e₄ at (known s t (i + 3) (omega arith) (rw (octets .3) at (k .keeping)) st)
 
       -- the last two, the last three, the first three, or all four
-      two-turn : {s t u : ℕ} → Leads s (octetOf w 2) t → Leads t (octetOf w 3) u → AtByte s (i + 2) → AtByte u (i + 4)
+      two-turn : {s t u : ℕ} → Leads s (octetOf w 2) t → Leads t (octetOf w 3) u → AtByte (tails s) (i + 2) → AtByte (tails u) (i + 4)
       two-turn k l st = fourth-turn l (third-turn k st)
 
-      last-turn : {s t u x : ℕ} → Leads s (octetOf w 1) t → Leads t (octetOf w 2) u → Leads u (octetOf w 3) x → AtByte s (i + 1) → AtByte x (i + 4)
+      last-turn : {s t u x : ℕ} → Leads s (octetOf w 1) t → Leads t (octetOf w 2) u → Leads u (octetOf w 3) x → AtByte (tails s) (i + 1) → AtByte (tails x) (i + 4)
       last-turn k l m st = two-turn l m (second-turn k st)
 
-      three-turn : {s t u x : ℕ} → Leads s (octetOf w 0) t → Leads t (octetOf w 1) u → Leads u (octetOf w 2) x → AtByte s i → AtByte x (i + 3)
+      three-turn : {s t u x : ℕ} → Leads s (octetOf w 0) t → Leads t (octetOf w 1) u → Leads u (octetOf w 2) x → AtByte (tails s) i → AtByte (tails x) (i + 3)
       three-turn k l m st = third-turn m (second-turn l (first-turn k st))
 
-      word-turn : {s₀ s₁ s₂ s₃ s₄ : ℕ} → WordSteps w s₀ s₁ s₂ s₃ s₄ → AtByte s₀ i → AtByte s₄ (i + 4)
+      word-turn : {s₀ s₁ s₂ s₃ s₄ : ℕ} → WordSteps w s₀ s₁ s₂ s₃ s₄ → AtByte (tails s₀) i → AtByte (tails s₄) (i + 4)
       word-turn k st = last-turn (k .second) (k .third) (k .fourth) (first-turn (k .first) st)
 
 -- ---- `Skipped`: bytes that are whole characters
@@ -95,16 +96,17 @@ skip-none text i h = record { forward = omega arith; in-bounds = h; same-verdict
 pub skip-more : {text : List ℕ} {i j k : ℕ} → Skipped text i j → Skipped text j k → Skipped text i k
 skip-more p q = record { forward = omega (arith, p .forward, q .forward); in-bounds = q .in-bounds; same-verdict = q .same-verdict ∙ p .same-verdict }
 
--- skipping keeps the check in state 0 with the same answer
-pub skip-at : (text : List ℕ) (v : Bool) (i j : ℕ) → Skipped text i j → AtByte text v 0 i → AtByte text v 0 j
-skip-at text v i j p st = open-none text v j (p .same-verdict ∙ none-open text v i st)
+-- skipping whole characters keeps the answer
+pub skip-at : (text : List ℕ) (v : Bool) (k : Scan) (i j : ℕ) → noneOpen k ≡ true → Skipped text i j → AtByte text v k i → AtByte text v k j
+skip-at text v k i j o p st = open-none text v k j o (p .same-verdict ∙ none-open text v k i o st)
 
 module _ (text : List ℕ) (small : (k : ℕ) → getD text k 0 < 256) where
-  start : (i : ℕ) → AtByte text (isGood (firstBad (drop i text))) 0 i
-  start i = open-none text _ i refl
+  start : (i : ℕ) → AtByte text (isGood (firstBad (drop i text))) (tails 0) i
+  start i = answer-start (drop i text)
 
-  skipped-to : (i j : ℕ) → i ≤ j → j ≤ length text → AtByte text (isGood (firstBad (drop i text))) 0 j → Skipped text i j
-  skipped-to i j o h st = record { forward = o; in-bounds = h; same-verdict = none-open text _ j st }
+  skipped-to : (i j : ℕ) → i ≤ j → j ≤ length text → AtByte text (isGood (firstBad (drop i text))) (tails 0) j → Skipped text i j
+  unfolding noneOpen
+  skipped-to i j o h st = record { forward = o; in-bounds = h; same-verdict = none-open text _ (tails 0) j refl st }
 
   module _ (i : ℕ) (h : i + 4 ≤ length text) where
     -- four ASCII bytes, or one simple three-byte character

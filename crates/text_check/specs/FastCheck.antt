@@ -1,15 +1,19 @@
--- The fast check: its state table, the tests that replace the table for common text, and the masks that select the text of a packet's words.
+-- The fast check: the scan between words as one number, the looks that replace it for common text, and the masks that select the text of a packet's words.
 use Prim.Native.Nat.{ℕ, _+_, _-_, _*_, _/_, _%_, _^_, _≤_, _<_}
 use mathlib.Core.Path.{_≡_}
 use mathlib.Core.Bool.{Bool, true, false, not, _&&_}
-use mathlib.Core.List.{List, [], _∷_}
+use mathlib.Core.List.{List}
 use lib.Bits.{bitAnd}
 use lib.Dec.{eqb, ltb, leb}
 use lib.ListN.{getD, drop, length}
 use Rattle.laws.specs.Pick.{pick, both}
+use Rattle.counts.specs.Counts.{byte}
 use Rattle.utf8.specs.Utf8.{firstBad}
+use Rattle.utf8.specs.Scan.{afterByte}
 use Rattle.utf8.specs.declared.Utf8.{Utf8}
 use Rattle.utf8.specs.declared.Utf8.the-variants.{Good, BadAt}
+use Rattle.utf8.specs.declared.scan.Scan.{Scan}
+use Rattle.utf8.specs.declared.scan.Scan.the-variants.{Going, Stopped}
 use Rattle.text.specs.Octets.{octetOf}
 use Rattle.text.specs.BigEndian.{bigEndianAt}
 
@@ -18,70 +22,36 @@ abbrev pub isGood : Utf8 → Bool
 isGood Good = true
 isGood (BadAt n) = false
 
--- ---- the state table
+-- ---- the scan, without places: byte 0 stands for all
 
--- the class of each byte below F0: one hex digit for each, sixteen in a number
-abbrev pub classList : List ℕ
-classList =
-    0x1111111111111110
-    ∷ 0x1111111111111111
-    ∷ 0x1111111111111111
-    ∷ 0x1111111111111111
-    ∷ 0x1111111111111111
-    ∷ 0x1111111111111111
-    ∷ 0x1111111111111111
-    ∷ 0x1111111111111111
-    ∷ 0x2222222222222222
-    ∷ 0x3333333333333333
-    ∷ 0x4444444444444444
-    ∷ 0x4444444444444444
-    ∷ 0x6666666666666655
-    ∷ 0x6666666666666666
-    ∷ 0x8898888888888887
-    ∷ []
+-- the scan after byte b of a packet's text, where a zero byte is dropped
+unfoldable pub afterTextByte : Scan → ℕ → Scan
+afterTextByte k b = pick (eqb b 0) k (afterByte k (byte 0) b)
 
--- the classes of the 16 bytes with high digit h; the last number is that of F0..FF
-abbrev pub classesOf : ℕ → ℕ
-classesOf h = getD classList h 0x55555555555cbbba
+-- no character is open: the text may end here
+unfoldable pub noneOpen : Scan → Bool
+noneOpen (Stopped n) = false
+noneOpen (Going due low high start) = eqb due 0
 
--- the next state from each state, by the byte's class: six bits for each state; classes 13 to 15 are unused
-abbrev pub moveList : List ℕ
-moveList =
-    0x30aa479848c180
-    ∷ 0x30c30c30c30c00
-    ∷ 0x303301b0306030
-    ∷ 0x30c0c1b0306030
-    ∷ 0x30c0cc06306030
-    ∷ 0x30c30c30c30c30
-    ∷ 0x30c30c30c30c06
-    ∷ 0x30c30c30c30c18
-    ∷ 0x30c30c30c30c0c
-    ∷ 0x30c30c30c30c1e
-    ∷ 0x30c30c30c30c24
-    ∷ 0x30c30c30c30c12
-    ∷ 0x30c30c30c30c2a
-    ∷ 0x30c30c30c30c30
-    ∷ 0x30c30c30c30c30
-    ∷ []
+-- a scan as one number: its lowest octet is how many bytes are due, the two above say how much narrower than 80..BF the next byte's range is, at the low end and at the high end
+-- so 0, 1 and 2 mean that none, one or two tails are due
+unfoldable pub scanOf : ℕ → Scan
+scanOf s = Going (s % 0x100) (0x80 + s / 0x100 % 0x80) (0xBF - s / 0x10000 % 0x40) (byte 0)
 
--- the next states for class k
-abbrev pub movesOf : ℕ → ℕ
-movesOf k = getD moveList k 0x30c30c30c30c30
+-- the number of a scan; one that has stopped is as one that waits for a byte from FF to 80, which no byte is
+unfoldable pub numberOf : Scan → ℕ
+numberOf (Stopped n) = 0x3F7F01
+numberOf (Going due low high start) = (0x3F - high % 0x40) * 0x10000 + low % 0x80 * 0x100 + due
 
--- the next state from each state for byte b
-unfoldable pub nextStates : ℕ → ℕ
-nextStates b = movesOf (classesOf (b / 16) / 2 ^ (b % 16 * 4) % 16)
+-- the scan after the four octets of a word
+abbrev pub afterOctets : Scan → ℕ → Scan
+afterOctets k w = afterTextByte (afterTextByte (afterTextByte (afterTextByte k (octetOf w 0)) (octetOf w 1)) (octetOf w 2)) (octetOf w 3)
 
--- s is a state of the table: one of 0, 6, .., 48
-pub record IsState (s : ℕ) : Type 0 where
-  pub sixes : s % 6 ≡ 0
-  pub below : s < 54
+-- the same from number to number
+unfoldable pub afterWord : ℕ → ℕ → ℕ
+afterWord s w = numberOf (afterOctets (scanOf s) w)
 
--- the state after a byte; a zero byte changes nothing
-unfoldable pub tableStep : ℕ → ℕ → ℕ
-tableStep s b = nextStates b / 2 ^ s % 64
-
--- ---- simple three-byte characters, checked without the table: the first byte is E1..EF but not ED, the other two are any of 80..BF
+-- ---- simple three-byte characters, which a look can tell: the first byte is E1..EF but not ED, the other two are any of 80..BF
 
 -- a byte of E0..EF
 abbrev pub isE0ToEF : ℕ → Bool
@@ -99,9 +69,15 @@ simpleFirst b = isE0ToEF b && notE0OrED b
 abbrev pub isTail : ℕ → Bool
 isTail b = eqb (b / 64) 2
 
--- two bytes continue a run of simple characters; state 0, 6 or 12 says that no, one or two tails are due
+-- two bytes continue a run of simple characters that has so many tails due: none, one or two
 unfoldable pub runOfTwo : ℕ → ℕ → ℕ → Bool
-runOfTwo s a b = pick (eqb s 0) (simpleFirst a && isTail b) (pick (eqb s 6) (isTail a && simpleFirst b) (pick (eqb s 12) (isTail a && isTail b) false))
+runOfTwo due a b = pick (eqb due 0) (simpleFirst a && isTail b) (pick (eqb due 1) (isTail a && simpleFirst b) (pick (eqb due 2) (isTail a && isTail b) false))
+
+-- the same for the two octets of one half of a word, where the other half is zero
+unfoldable pub runOfHalf : ℕ → ℕ → Bool
+runOfHalf due w =
+    pick (ltb w 0x10000) (runOfTwo due (octetOf w 2) (octetOf w 3))
+    (pick (eqb (w % 0x10000) 0) (runOfTwo due (octetOf w 0) (octetOf w 1)) false)
 
 -- the first three octets of a word are a simple character
 unfoldable pub firstThree : ℕ → Bool
@@ -123,26 +99,22 @@ runOneDue w = isTail (octetOf w 0) && (isE0ToEF (octetOf w 1) && (isTail (octetO
 unfoldable pub runTwoDue : ℕ → Bool
 runTwoDue w = isTail (octetOf w 0) && (isTail (octetOf w 1) && (isE0ToEF (octetOf w 2) && (isTail (octetOf w 3) && notE0OrED (octetOf w 2))))
 
--- the same from any state
+-- the same for a run that has so many tails due
 unfoldable pub runOfFour : ℕ → ℕ → Bool
-runOfFour s w = pick (eqb s 0) (runNoneDue w) (pick (eqb s 6) (runOneDue w) (pick (eqb s 12) (runTwoDue w) false))
+runOfFour due w = pick (eqb due 0) (runNoneDue w) (pick (eqb due 1) (runOneDue w) (pick (eqb due 2) (runTwoDue w) false))
 
 -- the octets of three words continue a run
 unfoldable pub runOfTwelve : ℕ → ℕ → ℕ → ℕ → Bool
-runOfTwelve s a b c =
-    pick (eqb s 0) (runNoneDue a && (runTwoDue b && runOneDue c))
-    (pick (eqb s 6) (runOneDue a && (runNoneDue b && runTwoDue c))
-    (pick (eqb s 12) (runTwoDue a && (runOneDue b && runNoneDue c)) false))
+runOfTwelve due a b c =
+    pick (eqb due 0) (runNoneDue a && (runTwoDue b && runOneDue c))
+    (pick (eqb due 1) (runOneDue a && (runNoneDue b && runTwoDue c))
+    (pick (eqb due 2) (runTwoDue a && (runOneDue b && runNoneDue c)) false))
 
 -- the twelve bytes of a text from byte i on are four simple characters
 unfoldable pub runAt : List ℕ → ℕ → Bool
 runAt text i = runNoneDue (bigEndianAt text i) && (runTwoDue (bigEndianAt text (i + 4)) && runOneDue (bigEndianAt text (i + 8)))
 
 -- ---- words
-
--- the state after the four octets of a word
-abbrev pub afterWord : ℕ → ℕ → ℕ
-afterWord s w = tableStep (tableStep (tableStep (tableStep s (octetOf w 0)) (octetOf w 1)) (octetOf w 2)) (octetOf w 3)
 
 -- all four octets are below 128
 unfoldable pub asciiWord : ℕ → Bool
@@ -172,11 +144,7 @@ asciiTexts ws offset p =
 unfoldable pub asciiPacket : List ℕ → ℕ → ℕ → Bool
 asciiPacket ws offset p = pick (leb (length ws / 4) p) false (asciiTexts ws offset p)
 
--- ---- a text as it is given, where a zero byte is a character
-
--- the state after a byte: a zero byte counts as any other ASCII byte
-unfoldable pub stepKeepingZeros : ℕ → ℕ → ℕ
-stepKeepingZeros s b = tableStep s (pick (eqb b 0) 1 b)
+-- ---- a text as it is given
 
 -- how many octets at the start of a word are surely whole characters; 0 if these tests cannot tell
 unfoldable pub wholeCharacters : ℕ → ℕ

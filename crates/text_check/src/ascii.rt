@@ -1,9 +1,11 @@
-// Tests for ASCII text (bytes below 128; zeros count too): it needs no table and leaves no character open.
+// Tests for ASCII text (bytes below 128; zeros count too): a look tells it, and it leaves no character open.
 ghost use mathlib.Core.Path.{_≡_};
 ghost use Prim.Native.Nat.{_<_};
 ghost use lib.ListN.{length};
 ghost use Rattle.text_check.specs.FastCheck.{asciiWord, asciiText, asciiPacket};
 use crate::words::text_mask;
+use counts::PacketNumber;
+use counts::WordNumber;
 
 // Whether all four octets of a word are below 128. LLVM turns the four tests into one.
 pub(crate) fn ascii_word(w: u32) -> bool
@@ -33,13 +35,16 @@ fn ascii_text(words: &[u32], offset: usize, at: usize, end: usize) -> bool
 pub fn ascii_packet(words: &[u32], offset: usize, p: usize) -> bool
     ensures { λ r. ⌜ r ≡ asciiPacket (now (words .entry)) offset p ⌝ }
 {
-    if words.len() / 4 <= p {
+    let packets = counts::whole_packets(WordNumber(words.len()));
+    if packets.0 <= p {
         return false;
     }
-    if ascii_text(words, offset, p * 4, 2) {
-        if ascii_text(words, offset, p * 4 + 1, 6) {
-            if ascii_text(words, offset, p * 4 + 2, 10) {
-                return ascii_text(words, offset, p * 4 + 3, 14);
+    let first = counts::first_word(PacketNumber(p));
+    let k = first.0;
+    if ascii_text(words, offset, k, 2) {
+        if ascii_text(words, offset, k + 1, 6) {
+            if ascii_text(words, offset, k + 2, 10) {
+                return ascii_text(words, offset, k + 3, 14);
             }
         }
     }

@@ -6,6 +6,7 @@ ghost use Rattle.utf8.specs.Utf8.{firstBad};
 ghost use Rattle.text.specs.Bytes.{textOf};
 use counts::PacketNumber;
 use counts::TextByteNumber;
+use counts::WordNumber;
 use text::TextPlace;
 use text::by_byte;
 use utf8::Utf8;
@@ -20,7 +21,8 @@ pub(crate) fn check_text(words: &[u32], offset: usize) -> Utf8
     if 14 <= offset {
         return Utf8::Good;
     }
-    let count = words.len() / 4;
+    let packets = counts::whole_packets(WordNumber(words.len()));
+    let count = packets.0;
     let mut r = skipping_zeros::new_skipping_scan();
     let mut p = 0;
     let mut b = 0;

@@ -1,30 +1,20 @@
-// The fast check of a text given as bytes, where a zero byte is a character. Whole characters are skipped several at a time; the table decides the rest.
+// The fast check of a text given as bytes, where a zero byte is a character. Whole characters are skipped several at a time by looks; the scan takes the rest byte by byte.
 ghost use mathlib.Core.Path.{_≡_};
 ghost use Prim.Native.Nat.{_+_, _<_, _≤_};
 ghost use lib.ListN.{length, drop};
 ghost use Rattle.utf8.specs.Utf8.{firstBad};
-ghost use Rattle.text_check.specs.FastCheck.{isGood, wholeCharacters, runAt, Skipped, stepKeepingZeros};
+ghost use Rattle.text_check.specs.FastCheck.{isGood, wholeCharacters, runAt, Skipped};
 use crate::ascii::ascii_word;
-use crate::state_table::BAD;
-use crate::state_table::table_step;
+use crate::by_scan::none_open;
 use crate::three_byte_runs::first_three;
 use crate::three_byte_runs::last_three;
 use crate::three_byte_runs::run_none_due;
 use crate::three_byte_runs::run_one_due;
 use crate::three_byte_runs::run_two_due;
+use counts::TextByteNumber;
 use text::big_endian::big_endian;
-
-// The state after byte b. A zero byte counts as any other ASCII byte, such as 1.
-fn step_keeping_zeros(s: u64, b: u8) -> u64
-    requires { ⌜ s < 64 ⌝ }
-    ensures { λ r. ⌜ r ≡ stepKeepingZeros s b ⌝ }
-    ensures small { λ r. ⌜ r < 64 ⌝ }
-{
-    if b == 0 {
-        return table_step(s, 1);
-    }
-    table_step(s, b)
-}
+use utf8::scan;
+use utf8::scan::Scan;
 
 // How many octets at the start of w are whole characters: 4 if all are ASCII, 3 if they are one three-byte character. Returns 0 if this test cannot decide.
 fn whole_characters(w: u32) -> usize
@@ -141,24 +131,24 @@ fn skip_whole(text: &[u8]) -> usize
     skip_last(text, skip_by_words(text, i))
 }
 
-// Whether the text from byte `from` on is UTF-8, by the state table. A character must start there.
+// Whether the text from byte `from` on is UTF-8. A character must start there. No place is kept, so each byte is taken as byte 0.
 fn is_good_from(text: &[u8], from: usize) -> bool
     requires { ⌜ from ≤ length (now text) ⌝ }
     ensures { λ r. ⌜ r ≡ isGood (firstBad (drop from (now (text .entry)))) ⌝ }
 {
-    let mut s: u64 = 0;
+    let mut s = scan::new_scan();
     let mut i = from;
     while i < text.len() {
-        s = step_keeping_zeros(s, text[i]);
-        if s == BAD {
+        s = scan::after_byte(s, TextByteNumber(0), text[i]);
+        if let Scan::Stopped(_) = s {
             return false;
         }
         i += 1;
-        if s == 0 {
+        if none_open(s) {
             i = skip_by_words(text, i);
         }
     }
-    s == 0
+    none_open(s)
 }
 
 // Whether the text is UTF-8.

@@ -9,8 +9,8 @@ use utf8::Utf8;
 
 pub mod ascii;
 mod by_byte;
+mod by_scan;
 mod bytes;
-mod state_table;
 mod three_byte_runs;
 mod words;
 

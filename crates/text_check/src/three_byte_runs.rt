@@ -1,6 +1,6 @@
-// Runs of simple three-byte characters, checked without the state table. Simple: the first byte is E1..EF but not ED, so any two bytes of 80..BF may follow.
+// Runs of simple three-byte characters, told by looks at several bytes. Simple: the first byte is E1..EF but not ED, so any two bytes of 80..BF may follow.
 ghost use mathlib.Core.Path.{_≡_};
-ghost use Rattle.text_check.specs.FastCheck.{isE0ToEF, notE0OrED, isTail, simpleFirst, runOfTwo, firstThree, lastThree, runNoneDue, runOneDue, runTwoDue, runOfFour, runOfTwelve};
+ghost use Rattle.text_check.specs.FastCheck.{isE0ToEF, notE0OrED, isTail, simpleFirst, runOfTwo, runOfHalf, firstThree, lastThree, runNoneDue, runOneDue, runTwoDue, runOfFour, runOfTwelve};
 
 // Whether b is one of E0..EF.
 fn is_e0_to_ef(b: u32) -> bool
@@ -30,16 +30,29 @@ fn simple_first(b: u32) -> bool
     is_e0_to_ef(b) && not_e0_or_ed(b)
 }
 
-// Whether two bytes continue a run of simple characters. State 0, 6 or 12 says that no, one or two tails are due.
-pub(crate) fn run_of_two(s: u64, a: u32, b: u32) -> bool
-    ensures { λ r. ⌜ r ≡ runOfTwo s a b ⌝ }
+// Whether two bytes continue a run of simple characters that has `due` tails due.
+fn run_of_two(due: u64, a: u32, b: u32) -> bool
+    ensures { λ r. ⌜ r ≡ runOfTwo due a b ⌝ }
 {
-    match s {
+    match due {
         0 => simple_first(a) && is_tail(b),
-        6 => is_tail(a) && simple_first(b),
-        12 => is_tail(a) && is_tail(b),
+        1 => is_tail(a) && simple_first(b),
+        2 => is_tail(a) && is_tail(b),
         _ => false,
     }
+}
+
+// Whether the two octets of one half of w continue a run that has `due` tails due. The other half is zero: a packet's text starts in it, or has ended.
+pub(crate) fn run_of_half(due: u64, w: u32) -> bool
+    ensures { λ r. ⌜ r ≡ runOfHalf due w ⌝ }
+{
+    if w < 0x10000 {
+        return run_of_two(due, w / 0x100 % 0x100, w % 0x100);
+    }
+    if w % 0x10000 == 0 {
+        return run_of_two(due, w / 0x1000000 % 0x100, w / 0x10000 % 0x100);
+    }
+    false
 }
 
 // Whether the first three octets of w are a simple character. Here and below the high bits are tested first, so that LLVM joins these tests into one.
@@ -96,26 +109,26 @@ pub(crate) fn run_two_due(w: u32) -> bool
     is_tail(a) && (is_tail(b) && (is_e0_to_ef(c) && (is_tail(d) && not_e0_or_ed(c))))
 }
 
-// Whether the four octets of w continue a run from state s.
-pub(crate) fn run_of_four(s: u64, w: u32) -> bool
-    ensures { λ r. ⌜ r ≡ runOfFour s w ⌝ }
+// Whether the four octets of w continue a run that has `due` tails due.
+pub(crate) fn run_of_four(due: u64, w: u32) -> bool
+    ensures { λ r. ⌜ r ≡ runOfFour due w ⌝ }
 {
-    match s {
+    match due {
         0 => run_none_due(w),
-        6 => run_one_due(w),
-        12 => run_two_due(w),
+        1 => run_one_due(w),
+        2 => run_two_due(w),
         _ => false,
     }
 }
 
-// Whether the twelve octets of three words continue a run from state s. They lead back to s.
-pub(crate) fn run_of_twelve(s: u64, a: u32, b: u32, c: u32) -> bool
-    ensures { λ r. ⌜ r ≡ runOfTwelve s a b c ⌝ }
+// Whether the twelve octets of three words continue a run that has `due` tails due. As many are due after them.
+pub(crate) fn run_of_twelve(due: u64, a: u32, b: u32, c: u32) -> bool
+    ensures { λ r. ⌜ r ≡ runOfTwelve due a b c ⌝ }
 {
-    match s {
+    match due {
         0 => run_none_due(a) && (run_two_due(b) && run_one_due(c)),
-        6 => run_one_due(a) && (run_none_due(b) && run_two_due(c)),
-        12 => run_two_due(a) && (run_one_due(b) && run_none_due(c)),
+        1 => run_one_due(a) && (run_none_due(b) && run_two_due(c)),
+        2 => run_two_due(a) && (run_one_due(b) && run_none_due(c)),
         _ => false,
     }
 }

@@ -7,7 +7,7 @@ use mathlib.Core.List.{List, _∷_}
 use native.Mathlib.Nat.{mod-eq-of-lt}
 use native.Mathlib.Numerals.{add-one}
 use native.Mathlib.Omega.{arith}
-use lib.Dec.{eqb, eqb·suc-zero}
+use lib.Dec.{eqb, eqb·suc-zero, ltb}
 use lib.ListN.{length, getD, drop, replicate, drop-of-length-le}
 use lib.Seq.{drop-cons}
 use Rattle.laws.specs.Pick.{pick}
@@ -21,33 +21,41 @@ use Rattle.utf8.specs.declared.skipping_zeros.SkippingScan.{SkippingScan
 use Rattle.utf8.specs.declared.Utf8.{Utf8}
 use Rattle.utf8.specs.declared.Utf8.the-variants.{BadAt}
 use Rattle.utf8.specs.Utf8.{Range, _‥_, inside, tail, dueAfter, going, stopped, startChar, nextState, verdict, verdictFrom, firstBad}
-use Rattle.utf8.specs.Scan.{leadingOnes, lengthByOnes, charLength, neverFirst, secondLow, secondHigh, afterFirstByte, afterByte, verdictAtEnd, dueRanges, meaning, newSkippingScan, afterRead, verdictAfter}
+use Rattle.utf8.specs.Scan.{leadingOnes, lengthByOnes, charLength, secondLow, secondHigh, tailsDue, secondDue, afterFirstByte, afterByte, verdictAtEnd, dueRanges, meaning, newSkippingScan, afterRead, verdictAfter}
 use Rattle.utf8.proofs.Same.{sameRanges, sameDue, same-due-eq}
 use Rattle.utf8.proofs.Valid.{verdict-stopped}
 
--- ---- a first byte: its length, the excluded bytes and the range of the second byte give the table's row
+-- ---- a first byte: its length, the barred bytes and the range of the second byte give the table's row
 
-due : ℕ → Option (List Range)
-due b = pick (eqb (charLength b) 0) none (pick (neverFirst b) none (some (dueRanges (charLength b - 1) (secondLow b) (secondHigh b))))
+-- what is due in a scan
+scanDue : Scan → Option (List Range)
+scanDue (Stopped n) = none
+scanDue (Going due low high start) = some (dueRanges due low high)
 
-due-test : ℕ → Bool
-due-test b = sameDue (due b) (dueAfter b)
+due-test : TextByteNumber → ℕ → Bool
+due-test n b = sameDue (scanDue (afterFirstByte n b)) (dueAfter b)
 
-due-law : (b : ℕ) → b < 256 → due b ≡ dueAfter b
-unfolding due-test due sameDue sameRanges leadingOnes lengthByOnes charLength neverFirst secondLow secondHigh dueAfter
-due-law b h = same-due-eq (due b) (dueAfter b) (each-at due-test 256 tt b h)
+due-law : (n : TextByteNumber) (b : ℕ) → b < 256 → scanDue (afterFirstByte n b) ≡ dueAfter b
+unfolding due-test scanDue sameDue sameRanges afterFirstByte leadingOnes lengthByOnes charLength secondLow secondHigh dueAfter
+due-law n b h = same-due-eq (scanDue (afterFirstByte n b)) (dueAfter b) (each-at (due-test n) 256 tt b h)
 
-first-byte-due : (n : TextByteNumber) (b : ℕ) → meaning (afterFirstByte n b) ≡ startChar (due b) (n .0)
-unfolding afterFirstByte due
-first-byte-due n b = go (eqb (charLength b) 0) (neverFirst b)
+first-byte-due : (n : TextByteNumber) (b : ℕ) → meaning (afterFirstByte n b) ≡ startChar (scanDue (afterFirstByte n b)) (n .0)
+unfolding afterFirstByte scanDue
+first-byte-due n b = go (eqb (charLength b) 1) (eqb (charLength b) 2) (ltb b 0xC2) (eqb (charLength b) 3) (eqb (charLength b) 4) (ltb 0xF4 b)
   where
-    go : (t u : Bool) → meaning (pick t (Stopped n) (pick u (Stopped n) (Going (charLength b - 1) (secondLow b) (secondHigh b) n))) ≡ startChar (pick t none (pick u none (some (dueRanges (charLength b - 1) (secondLow b) (secondHigh b))))) (n .0)
-    go true u = refl
-    go false true = refl
-    go false false = refl
+    go : (one two low three four high : Bool) →
+        let k = pick one (tailsDue 0 n) (pick two (pick low (Stopped n) (tailsDue 1 n)) (pick three (secondDue 2 b n) (pick four (pick high (Stopped n) (secondDue 3 b n)) (Stopped n)))) in
+        meaning k ≡ startChar (scanDue k) (n .0)
+    go true two low three four high = refl
+    go false true true three four high = refl
+    go false true false three four high = refl
+    go false false low true four high = refl
+    go false false low false true true = refl
+    go false false low false true false = refl
+    go false false low false false high = refl
 
 first-byte-law : (n : TextByteNumber) (b : ℕ) → b < 256 → meaning (afterFirstByte n b) ≡ startChar (dueAfter b) (n .0)
-first-byte-law n b h = first-byte-due n b ∙ ap (λ (o : Option (List Range)). startChar o (n .0)) (due-law b h)
+first-byte-law n b h = first-byte-due n b ∙ ap (λ (o : Option (List Range)). startChar o (n .0)) (due-law n b h)
 
 -- ---- any byte
 
@@ -55,7 +63,8 @@ tails : (k : ℕ) → dueRanges k 0x80 0xBF ≡ replicate k tail
 tails zero = refl
 tails (suc k) = refl
 
-byte-law : (s : Scan) (n : TextByteNumber) (b : ℕ) → b < 256 → meaning (afterByte s n b) ≡ nextState (meaning s) (n .0) b
+-- a step of the scan is a step of the definition
+pub byte-law : (s : Scan) (n : TextByteNumber) (b : ℕ) → b < 256 → meaning (afterByte s n b) ≡ nextState (meaning s) (n .0) b
 unfolding afterByte
 byte-law (Stopped m) n b h = refl
 byte-law (Going zero low high start) n b h = first-byte-law n b h

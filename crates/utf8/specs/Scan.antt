@@ -1,8 +1,7 @@
 -- What each function of the check returns, and what a `Scan` means in terms of `Utf8`.
 use Prim.Native.Nat.{ℕ, zero, suc, _+_, _-_, _/_, _%_, _^_}
-use mathlib.Core.Bool.{Bool, _||_}
 use mathlib.Core.List.{List, [], _∷_}
-use lib.Dec.{leb, eqb}
+use lib.Dec.{eqb, ltb}
 use lib.ListN.{replicate}
 use Rattle.laws.specs.Pick.{pick}
 use Rattle.laws.specs.Lists.{nonzero}
@@ -34,10 +33,6 @@ lengthByOnes n =
 unfoldable pub charLength : ℕ → ℕ
 charLength b = lengthByOnes (leadingOnes 8 b)
 
--- bytes that no character starts with, though their leading bits look right
-unfoldable pub neverFirst : ℕ → Bool
-neverFirst b = eqb b 0xC0 || eqb b 0xC1 || leb 0xF5 b
-
 -- the smallest second byte after first byte b
 unfoldable pub secondLow : ℕ → ℕ
 secondLow b = pick (eqb b 0xE0) 0xA0 (pick (eqb b 0xF0) 0x90 0x80)
@@ -48,23 +43,32 @@ secondHigh b = pick (eqb b 0xED) 0x9F (pick (eqb b 0xF4) 0x8F 0xBF)
 
 -- ---- any byte
 
+-- in a character that started at `start`, with so many tails due
+abbrev pub tailsDue : ℕ → TextByteNumber → Scan
+tailsDue due start = Going due 0x80 0xBF start
+
+-- the same after first byte b, which may narrow the range of the second
+abbrev pub secondDue : ℕ → ℕ → TextByteNumber → Scan
+secondDue due b start = Going due (secondLow b) (secondHigh b) start
+
 -- a check that has read nothing
 abbrev pub newScan : Scan
-newScan = Going 0 0x80 0xBF (byte 0)
+newScan = tailsDue 0 (byte 0)
 
--- the check after byte b, number `at`, where a character starts
+-- the check after byte b, number `at`, where a character starts; no character starts with C0, C1 or F5 and above
 unfoldable pub afterFirstByte : TextByteNumber → ℕ → Scan
 afterFirstByte at b =
-    pick (eqb (charLength b) 0) (Stopped at)
-    (pick (neverFirst b) (Stopped at)
-    (Going (charLength b - 1) (secondLow b) (secondHigh b) at))
+    pick (eqb (charLength b) 1) (tailsDue 0 at)
+    (pick (eqb (charLength b) 2) (pick (ltb b 0xC2) (Stopped at) (tailsDue 1 at))
+    (pick (eqb (charLength b) 3) (secondDue 2 b at)
+    (pick (eqb (charLength b) 4) (pick (ltb 0xF4 b) (Stopped at) (secondDue 3 b at)) (Stopped at))))
 
 -- the check after byte b, number `at`
 unfoldable pub afterByte : Scan → TextByteNumber → ℕ → Scan
 afterByte (Stopped n) at b = Stopped n
 afterByte (Going due low high start) at b =
     pick (eqb due 0) (afterFirstByte at b)
-    (pick (inside (low ‥ high) b) (Going (due - 1) 0x80 0xBF start) (Stopped start))
+    (pick (inside (low ‥ high) b) (tailsDue (due - 1) start) (Stopped start))
 
 -- the verdict at the end of the text
 unfoldable pub verdictAtEnd : Scan → Utf8

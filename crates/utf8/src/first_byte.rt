@@ -1,6 +1,6 @@
 // What the first byte of a character tells: the character's length, and the range of its second byte.
 ghost use mathlib.Core.Path.{_≡_};
-ghost use Rattle.utf8.specs.Scan.{charLength, neverFirst, secondLow, secondHigh};
+ghost use Rattle.utf8.specs.Scan.{charLength, secondLow, secondHigh};
 
 // The length of a character by the leading one bits of its first byte; 0 if no character starts with that many.
 pub(crate) fn char_length(b: u8) -> u8
@@ -13,19 +13,6 @@ pub(crate) fn char_length(b: u8) -> u8
         4 => 4,
         _ => 0,
     }
-}
-
-// Whether no character starts with b, though its leading bits look right.
-pub(crate) fn is_never_first(b: u8) -> bool
-    ensures { λ r. ⌜ r ≡ neverFirst b ⌝ }
-{
-    if b == 0xC0 {
-        return true;
-    }
-    if b == 0xC1 {
-        return true;
-    }
-    b >= 0xF5
 }
 
 // The smallest second byte after first byte b.

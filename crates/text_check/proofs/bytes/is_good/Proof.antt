@@ -1,6 +1,8 @@
 -- `bytes::is_good` meets its contract: after the skipped bytes, the rest decides.
-use mathlib.Core.Path.{_∙_}
+use mathlib.Core.Path.{refl, _∙_}
 use native.Mathlib.Omega.{arith}
+use Rattle.utf8.specs.Scan.{newScan}
+use Rattle.text_check.specs.FastCheck.{noneOpen}
 use Rattle.text_check.proofs.Progress.{answer-start}
 use Rattle.text_check.proofs.Skips.{skip-at, bytes-finish}
 use borrow.Author.Needs.{needs}
@@ -8,10 +10,11 @@ use Rattle.text_check.proofs.bytes.is_good.Statement.{statement}
 use Rattle.text_check.proofs.bytes.is_good.Tie as tie
 
 returns : tie.Need-returns
+unfolding noneOpen
 returns c =
     let text = c .before .before .before .args .text .now in
     let p = c .before .skip-whole in
-    bytes-finish text _ 0 (p .result) (let e = c .if1 .taken in omega arith) (skip-at text _ 0 (p .result) (p .ensures) (answer-start text))
+    bytes-finish text _ newScan (p .result) (let e = c .if1 .taken in omega arith) (skip-at text _ newScan 0 (p .result) refl (p .ensures) (answer-start text))
 
 is-good-from-requires : tie.Need-is-good-from-requires
 is-good-from-requires c κs = c .before .skip-whole .ensures .in-bounds

@@ -1,4 +1,4 @@
--- `three_byte_runs::run_of_four` meets its contract: one case for each state.
+-- `three_byte_runs::run_of_four` meets its contract: one case for each number of tails due.
 use native.Mathlib.Omega.{arith}
 use borrow.Author.Tests.{eq-eqb, ne-eqb}
 use Rattle.text_check.specs.FastCheck.{runOfFour}
@@ -10,7 +10,7 @@ pub run-of-four-spec : {M : Type 1} → statement M
 unfolding runOfFour
 run-of-four-spec =
     tie.close (tie.spec (λ c κs. search needs) (λ c κs. search needs) (λ c κs. search needs)
-    (λ c. rw (eq-eqb (c .before .before .args .s) 0 (omega arith)) (c .run-none-due .ensures))
-    (λ c. rw (ne-eqb (c .before .before .args .s) 0 (λ e. omega arith), eq-eqb (c .before .before .args .s) 6 (omega arith)) (c .run-one-due .ensures))
-    (λ c. rw (ne-eqb (c .before .before .args .s) 0 (λ e. omega arith), ne-eqb (c .before .before .args .s) 6 (λ e. omega arith), eq-eqb (c .before .before .args .s) 12 (omega arith)) (c .run-two-due .ensures))
-    (λ c. rw (ne-eqb (c .before .args .s) 0 (λ e. omega arith), ne-eqb (c .before .args .s) 6 (λ e. omega arith), ne-eqb (c .before .args .s) 12 (λ e. omega arith))))
+    (λ c. rw (eq-eqb (c .before .before .args .due) 0 (omega arith)) (c .run-none-due .ensures))
+    (λ c. rw (ne-eqb (c .before .before .args .due) 0 (λ e. omega arith), eq-eqb (c .before .before .args .due) 1 (omega arith)) (c .run-one-due .ensures))
+    (λ c. rw (ne-eqb (c .before .before .args .due) 0 (λ e. omega arith), ne-eqb (c .before .before .args .due) 1 (λ e. omega arith), eq-eqb (c .before .before .args .due) 2 (omega arith)) (c .run-two-due .ensures))
+    (λ c. rw (ne-eqb (c .before .args .due) 0 (λ e. omega arith), ne-eqb (c .before .args .due) 1 (λ e. omega arith), ne-eqb (c .before .args .due) 2 (λ e. omega arith))))

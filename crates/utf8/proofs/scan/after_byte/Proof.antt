@@ -24,9 +24,9 @@ returns-4 c = rw (c .before .s .given .1)
 returns-5 : tie.Need-returns-5
 unfolding afterByte
 returns-5 c =
-    rw (c .before .before .before .before .s2 .given .1, ne-eqb _ _ (c .before .before .if1 .left), le-leb _ _ (c .before .if2 .left), le-leb _ _ (c .if3 .left))
+    rw (c .before .before .before .before .before .s2 .given .1, ne-eqb _ _ (c .before .before .before .if1 .left), le-leb _ _ (c .before .before .if2 .left), le-leb _ _ (c .before .if3 .left)) (c .tails-due .ensures)
 
 pub after-byte-spec : {M : Type 1} → statement M
 after-byte-spec =
     tie.close (tie.spec (λ c. search needs) (λ c. search needs) (λ c κs. search needs) returns
-    returns-2 returns-3 (λ c. search needs) returns-4 returns-5)
+    returns-2 returns-3 (λ c. search needs) (λ c κs. search needs) returns-4 returns-5)
