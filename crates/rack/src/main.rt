@@ -1,11 +1,13 @@
 // A rack of renames: long runs of settings, accepted and refused, on each kind in buffers of several sizes with odd tails.
 // After every setting the words are held to a fresh message that is set once to the last accepted value of each field.
 mod apply;
+mod planted;
 mod run;
 mod tally;
 mod values;
 
 use libc::STDOUT_FILENO;
+use planted::plant_each;
 use run::Plan;
 use run::run;
 use tally::add;
@@ -65,6 +67,13 @@ fn put_kind(
     put_tally(out, at, name, &tally)
 }
 
+// The line of the planted differences: as many differ as are planted.
+fn put_planted(out: &mut [u8], at: usize, pool: &[u8]) -> usize {
+    let mut tally = [0u64; 10];
+    plant_each(pool, &mut tally);
+    put_tally(out, at, b"planted", &tally)
+}
+
 // The line of the year, and its tally added to that of all.
 fn put_year(out: &mut [u8], at: usize, pool: &[u8], all: &mut [u64]) -> usize {
     let mut tally = [0u64; 10];
@@ -97,7 +106,8 @@ fn put_all(out: &mut [u8], pool: &[u8]) -> usize {
         0,
         b"run made accepted refused differed by-3 by-11 by-12 by-13 by-14 by-others\n",
     );
-    let a = put_endpoint(out, head, pool, &mut all);
+    let planted = put_planted(out, head, pool);
+    let a = put_endpoint(out, planted, pool, &mut all);
     let b = put_texts(out, a, pool, &mut all);
     let c = put_block(out, b, pool, &mut all);
     put_tally(out, c, b"all", &all)

@@ -84,7 +84,7 @@ fn fill(words: &mut [u32]) {
 }
 
 // Whether all words are the same, and those after the last whole packet as found.
-fn same(words: &[u32], again: &[u32]) -> bool {
+pub(crate) fn same(words: &[u32], again: &[u32]) -> bool {
     if words.len() != again.len() {
         return false;
     }
@@ -111,7 +111,7 @@ fn begin(words: &mut [u32], kind: usize) {
 }
 
 // A fresh message with each field set once.
-fn build(words: &mut [u32], kind: usize, values: Values, pool: &[u8]) {
+pub(crate) fn build(words: &mut [u32], kind: usize, values: Values, pool: &[u8]) {
     begin(words, kind);
     let end = fields(kind);
     let mut i = 0;

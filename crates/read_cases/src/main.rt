@@ -1,7 +1,12 @@
-// Runs stored cases through reading one message, and prints a line for each. Standard input has each case as the count of its words
+// Runs stored cases through reading one message, and prints two lines for each: what is read, and the text that a lent text place
+// hands out, of any slice, with the packet and byte number where the place is left. Standard input has each case as the count of its words
 // in sixteen bits and then the words, big-endian. Most cases and their answers come from an independent reading of document 01;
 // the last ones are 64 and 65 packets, and each refusal with its place.
 ghost use Prim.Native.Nat.{_<_};
+
+mod lent;
+
+use lent::put_lent;
 use libc::STDIN_FILENO;
 use libc::STDOUT_FILENO;
 
@@ -11,15 +16,17 @@ fn wide(byte: u8) -> usize
     byte as usize
 }
 
-// The line of one case.
+// The lines of one case.
 fn put_case(bytes: &[u8], out: &mut [u8], at: usize) -> usize {
     let mut words = [0u32; 512];
     let n = listing::words::read_words(bytes, &mut words);
     if n > 512 {
         return at;
     }
-    let p = listing::one::show(&words[0..n], out, at);
-    ascii_lines::put_byte(out, p, b'\n')
+    let a = listing::one::show(&words[0..n], out, at);
+    let b = ascii_lines::put_byte(out, a, b'\n');
+    let c = put_lent(out, b, &words[0..n]);
+    ascii_lines::put_byte(out, c, b'\n')
 }
 
 // The lines of all cases.
