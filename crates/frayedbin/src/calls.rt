@@ -43,6 +43,7 @@ use reading::packet;
 use records::answers::Walked;
 use records::message::Message;
 use text::TextPlace;
+use walking::helpers::other_size;
 
 #[no_mangle]
 pub extern "C" fn frayedbin_read(words: &[u32]) -> RecordAnswer
@@ -57,7 +58,7 @@ pub extern "C" fn frayedbin_read(words: &[u32]) -> RecordAnswer
 pub extern "C" fn frayedbin_walk(words: &[u32], position: usize) -> WalkAnswer
     ensures { λ r. ⌜ r ≡ walkCrossed (walkOf (now (words .entry)) position) ⌝ }
 {
-    let size = walking::other_size(words, WordNumber(position));
+    let size = other_size(words, WordNumber(position)).0;
     if size != 0 {
         return of_other(type_of(words[position]) as u32, size, position + size);
     }

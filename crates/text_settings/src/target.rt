@@ -7,7 +7,7 @@ ghost use Rattle.text_settings.specs.Texts.{singleAscii, SingleHead};
 use counts::PacketNumber;
 use kinds::kind::Kind;
 use reading::heads::status_of;
-use reading::one_pass::text_packets;
+use reading::helpers::text_packets;
 use settings::target::Target;
 use settings::target::find_target;
 use table::rows::row_of;

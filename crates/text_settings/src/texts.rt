@@ -5,9 +5,10 @@ ghost use Rattle.text_settings.specs.Texts.{SingleHead, roomOf, planOf, 
 use crate::target::find_target_fast;
 use buffer::texts::fill_text;
 use counts::PacketNumber;
+use counts::TextByteNumber;
 use kinds::kind::Kind;
 use kinds::refusal::Refusal;
-use reading::one_pass::offset_of;
+use reading::helpers::offset_of;
 use records::answers::Answer;
 use settings::target::Target;
 use text::packets::packets_needed;
@@ -24,7 +25,7 @@ pub(crate) enum Plan {
 fn find_room(bytes: usize, capacity: usize, room: PacketNumber) -> Plan
     ensures { λ r. ⌜ r ≡ roomOf (needed capacity bytes) (room .0) ⌝ }
 {
-    let needed = packets_needed(bytes, capacity);
+    let needed = packets_needed(TextByteNumber(bytes), capacity);
     let n = needed.0;
     if 64 < n {
         return Plan::Refused(Refusal::TooManyPackets);

@@ -1,14 +1,16 @@
 -- Reading a framed message by what framing left open answers as reading does. Closed by passing the refusals that framing has ruled out.
-use Prim.Native.Nat.{ℕ, _%_}
+use Prim.Native.Nat.{ℕ, _*_, _%_, _^_, _<_}
 use mathlib.Core.Path.{_≡_, refl, sym, ap, _∙_}
 use mathlib.Core.List.{List}
+use native.Mathlib.Omega.{arith}
 use lib.ListN.{length}
 use lib.Dec.{ltb}
 use borrow.Author.Tests.{le-ltb}
 use Rattle.laws.specs.Pick.{pick}
 use Rattle.laws.proofs.Pick.{past, eq-differ}
-use Rattle.counts.specs.Counts.{packet}
+use Rattle.counts.specs.Counts.{packet, firstWord, wrapped}
 use Rattle.counts.specs.declared.PacketNumber.{PacketNumber}
+use Rattle.counts.specs.declared.WordNumber.{WordNumber}
 use Rattle.kinds.specs.declared.refusal.Refusal.the-variants.{WrongFormat}
 use Rattle.kinds.specs.declared.kind.Kind.{Kind}
 use Rattle.kinds.specs.declared.kind.Known.{Known}
@@ -21,6 +23,7 @@ use Rattle.standard.specs.declared.Framed.the-variants.{Whole}
 use Rattle.standard.specs.Heads.{statusOf, packetsOf, headAt}
 use Rattle.standard.specs.Reading.{readKind, readKnown, readOf}
 use Rattle.standard.specs.Walk.{frameOf, part}
+use Rattle.standard.proofs.Next.{whole-room}
 use Rattle.standard.proofs.Rules.{ruled-kept}
 use Rattle.standard.proofs.Framing.{Framed-heads, framed-heads}
 use Rattle.reading.specs.Bodies.{fieldsRead}
@@ -44,6 +47,10 @@ module _ (ws : List ℕ) (f : Framed-heads ws) where
       (past _ (eq-differ (length ws % 4) 0 (f .whole))
       (past _ (le-ltb 64 (packetsOf ws) (f .few))
       (ruled-kept _ _ _ _ (f .type) (known-same (kindOf (statusOf (headAt ws 0)))))))
+
+-- the words of a framed message, as 64 bits hold their number
+pub framed-words : {f : Framed} (ws : List ℕ) (pos : ℕ) {n : PacketNumber} {k : WordNumber} → f ≡ frameOf ws pos → f ≡ Whole n → k ≡ wrapped (firstWord n) → length ws < 2 ^ 64 → k .0 ≡ n .0 * 4
+framed-words ws pos e q t h = let r = whole-room ws pos e q in let z = ap (λ (x : WordNumber). x .0) t in omega (arith, r, z)
 
 -- A FRAMED MESSAGE IS READ AS BEFORE
 pub framed-read : {f : Framed} (ws : List ℕ) (pos : ℕ) {n : PacketNumber} → f ≡ frameOf ws pos → f ≡ Whole n → framedRead (part ws pos (n .0)) ≡ readOf (part ws pos (n .0))

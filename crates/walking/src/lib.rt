@@ -50,6 +50,7 @@ fn step_of(p: usize, format: u8) -> Step
 }
 
 // Counts the packets of the message at `pos` and checks their heads. If 64 packets do not end it there are too many, even with no words left.
+// `at` is the first word of packet p: four words on in each turn, so that the loop has no product.
 fn frame(words: &[u32], pos: usize) -> Framed
     requires { ⌜ pos < length (now words) ⌝ }
     ensures { λ r. ⌜ r ≡ frameOf (now (words .entry)) pos ⌝ }

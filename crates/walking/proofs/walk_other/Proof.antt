@@ -1,7 +1,8 @@
 -- Another type: its words are there or not.
-use mathlib.Core.Path.{refl}
+use mathlib.Core.Path.{refl, ap}
 use borrow.Author.Tests.{lt-ltb, le-ltb}
 use Rattle.laws.proofs.Pick.{here, past}
+use Rattle.counts.specs.declared.WordNumber.{WordNumber}
 use Rattle.standard.specs.Walk.{otherOf}
 use borrow.Author.Needs.{needs}
 use Rattle.walking.proofs.walk_other.Statement.{statement}
@@ -11,6 +12,6 @@ pub walk-other-spec : {M : Type 1} → statement M
 unfolding otherOf
 walk-other-spec =
     tie.close (tie.spec (λ c κs. search needs) (λ c. search needs)
-    (λ c. rw (← c .before .size-of .ensures) (here _ (lt-ltb _ _ (c .if1 .taken)) refl))
+    (λ c. rw (← ap (λ (x : WordNumber). x .0) (c .before .before .size-of .ensures)) (here _ (lt-ltb _ _ (c .if1 .taken)) refl))
     (λ c. search needs)
-    (λ c. rw (← c .before .size-of .ensures) (past _ (le-ltb _ _ (c .if1 .left)) refl)))
+    (λ c. rw (← ap (λ (x : WordNumber). x .0) (c .before .before .before .size-of .ensures)) (past _ (le-ltb _ _ (c .before .if1 .left)) refl)))
