@@ -1,23 +1,32 @@
--- The words of a text packet as the code computes them: the first from head and text, the others octet by octet or from a part of the text. Proved by arithmetic on the byte numbers.
+-- The words of a text packet as the code computes them: octet by octet, or the first from head and text and the others from a part of the text. Proved by arithmetic on the byte numbers.
 use Prim.Native.Nat.{ℕ, _+_, _-_, _*_, _/_, _^_, _<_, _≤_}
-use mathlib.Core.Path.{_≡_, refl, sym, ap, _∙_}
+use mathlib.Core.Path.{_≡_, refl, sym, ap, subst, _∙_}
 use mathlib.Core.List.{List}
 use native.Mathlib.Omega.{arith}
 use native.Mathlib.Nat.{mul-le-mul, add-zero}
 use lib.ListN.{length, getD, take, drop}
+use lib.Pow.{pow-add, shr-lt}
+use lib.Arith.{digits-lt}
 use Rattle.laws.specs.Bits.{wordOf}
-use Rattle.laws.proofs.Bits.{high-two}
-use Rattle.text.specs.Octets.{dueFormat}
+use Rattle.text.specs.Octets.{octetOf, dueFormat}
 use Rattle.text.specs.BigEndian.{bigEndianAt}
 use Rattle.text.specs.Written.{octetAt, wordIn}
 use Rattle.text.proofs.BigEndian.{big-endian-part}
 use Rattle.text.proofs.Written.{octet-head, octet-text}
 use Rattle.text.proofs.Rewritten.{head-zero}
-use Rattle.text.proofs.First.{octets-of, word-2, word-3, word-4}
+use Rattle.text.proofs.First.{head-octet, first-word}
 
 -- a text byte's number is at most 882
 pub product : {p cap : ℕ} → p < 64 → cap ≤ 14 → p * cap ≤ 882
 product {p} {cap} hp hc = let h : p ≤ 63 = omega arith in mul-le-mul h hc
+
+-- the first octets of a word and the first of four bytes fit a word
+pub joined-small : (w b k : ℕ) → w < 2 ^ 32 → b < 2 ^ 32 → k ≤ 4 → w / 2 ^ (32 - k * 8) * 2 ^ (32 - k * 8) + b / 2 ^ (k * 8) < 2 ^ 32
+joined-small w b k hw hb hk =
+    let e : k * 8 + (32 - k * 8) ≡ 32 = omega arith in
+    let f : 32 - k * 8 + k * 8 ≡ 32 = omega arith in
+    subst (λ (x : ℕ). w / 2 ^ (32 - k * 8) * 2 ^ (32 - k * 8) + b / 2 ^ (k * 8) < x) (sym (pow-add 2 (k * 8) (32 - k * 8)) ∙ ap (λ (x : ℕ). 2 ^ x) e)
+    (digits-lt (shr-lt (k * 8) (32 - k * 8) (rw e hw)) (shr-lt (32 - k * 8) (k * 8) (rw f hb)))
 
 module _ (text : List ℕ) (head : ℕ → ℕ) (offset n p : ℕ) (room : offset < 14) where
   start : 16 - (14 - offset) ≡ 2 + offset
@@ -29,6 +38,10 @@ module _ (text : List ℕ) (head : ℕ → ℕ) (offset n p : ℕ) (room : offse
   -- octets before the text and after the head word are 0
   pub before-text : (j : ℕ) → j < 2 + offset → 4 ≤ j → 0 ≡ octetAt text head (14 - offset) n p j
   before-text j h l = sym (octet-head text head (14 - offset) n p j (rw start h) ∙ head-zero _ j l)
+
+  -- octets before the text and in the head word are those of the head
+  pub in-head : (j : ℕ) → j < 2 + offset → j < 4 → octetOf (head (dueFormat n p)) j ≡ octetAt text head (14 - offset) n p j
+  in-head j h l = sym (octet-head text head (14 - offset) n p j (rw start h) ∙ head-octet _ j l)
 
   -- a word after the first whose octets are all text
   shifted : (a b s i : ℕ) → s ≤ b → a + (b - s) + i ≡ a + (b + i - s)
@@ -42,30 +55,26 @@ module _ (text : List ℕ) (head : ℕ → ℕ) (offset n p : ℕ) (room : offse
     unfolding wordIn
     word-of-text at e = rw (e, in-text (q * 4) h, byte-of 1, byte-of 2, byte-of 3)
 
--- ---- the words after the first, if the text starts within the first
-module _ (text : List ℕ) (head : ℕ → ℕ) (offset n p : ℕ) (near : offset ≤ 1) where
+-- of the head a packet has only the word for its own format
+pub same-head : (text : List ℕ) (head : ℕ → ℕ) (cap n p q h : ℕ) → h ≡ head (dueFormat n p) → wordIn text (λ f. h) cap 0 p q ≡ wordIn text head cap n p q
+unfolding wordIn octetAt
+same-head text head cap n p q h e = rw e
+
+-- ---- the words of a packet, if the text starts within the first or right after it
+module _ (text : List ℕ) (head : ℕ → ℕ) (offset n p : ℕ) (near : offset ≤ 2) where
   place : (a q i : ℕ) → i + 4 ≡ q * 4 → a + (2 - offset) + i ≡ a + (q * 4 - (2 + offset))
   place a q i e = omega arith
 
-  pub later-text : (q i at : ℕ) → i + 4 ≡ q * 4 → at ≡ p * (14 - offset) + (2 - offset) + i → wordOf (getD text at 0) (getD text (at + 1) 0) (getD text (at + 2) 0) (getD text (at + 3) 0) ≡ wordIn text head (14 - offset) n p q
-  later-text q i at e ea = word-of-text text head offset n p (omega arith) q (omega arith) at (ea ∙ place (p * (14 - offset)) q i e)
+  module _ (at : ℕ) (here : at ≡ p * (14 - offset) + 0) where
+    -- a word after the first
+    pub later-text : (q i from : ℕ) → i + 4 ≡ q * 4 → from ≡ at + (2 - offset) + i → wordOf (getD text from 0) (getD text (from + 1) 0) (getD text (from + 2) 0) (getD text (from + 3) 0) ≡ wordIn text head (14 - offset) n p q
+    later-text q i from e ef = word-of-text text head offset n p (omega arith) q (omega arith) from (ef ∙ place at q i e ∙ ap (λ (x : ℕ). x + (q * 4 - (2 + offset))) (here ∙ add-zero _))
 
-  pub later-part : (q i len : ℕ) → i + 4 ≡ q * 4 → i + 4 ≤ len → p * (14 - offset) + (2 - offset) + len ≤ length text → bigEndianAt (take len (drop (p * (14 - offset) + (2 - offset)) text)) i ≡ wordIn text head (14 - offset) n p q
-  later-part q i len e h l = big-endian-part text (p * (14 - offset) + (2 - offset)) len l i h ∙ later-text q i (p * (14 - offset) + (2 - offset) + i) e refl
+    pub later-part : (q i len : ℕ) → i + 4 ≡ q * 4 → i + 4 ≤ len → at + (2 - offset) + len ≤ length text → bigEndianAt (take len (drop (at + (2 - offset)) text)) i ≡ wordIn text head (14 - offset) n p q
+    later-part q i len e h l = big-endian-part text (at + (2 - offset)) len l i h ∙ later-text q i (at + (2 - offset) + i) e refl
 
--- ---- the first word
-module _ (text : List ℕ) (head : ℕ → ℕ) (offset n p h : ℕ) (e : h ≡ head (dueFormat n p)) (small : h < 2 ^ 32) where
-  -- the text starts at octet 2, at octet 3, or after the first word
-  pub two-bytes : (w : ℕ) → ((k : ℕ) → getD text k 0 < 256) → offset ≡ 0 → w ≡ wordOf (getD text (p * (14 - offset)) 0) (getD text (p * (14 - offset) + 1) 0) (getD text (p * (14 - offset) + 2) 0) (getD text (p * (14 - offset) + 3) 0) → h / 0x10000 * 0x10000 + w / 0x10000 ≡ wordIn text head (14 - offset) n p 0
-  two-bytes w bytes z ew =
-      let o = octets-of h small .2 (getD text (p * 14) 0) (getD text (p * 14 + 1) 0) in
-      let q = high-two (getD text (p * 14) 0) (getD text (p * 14 + 1) 0) (getD text (p * 14 + 2) 0) (getD text (p * 14 + 3) 0) (bytes (p * 14 + 2)) (bytes (p * 14 + 3)) in
-      rw (ew, z, word-2 text head n p, ← e, add-zero, q) (omega arith)
-
-  pub one-byte : (d : ℕ) → offset ≡ 1 → d ≡ getD text (p * (14 - offset)) 0 → h / 0x100 * 0x100 + d ≡ wordIn text head (14 - offset) n p 0
-  one-byte d z ed =
-      let o = octets-of h small .1 d in
-      rw (z, word-3 text head n p, ← e, add-zero, ← (rw z at ed)) (omega arith)
-
-  pub no-byte : 2 ≤ offset → h ≡ wordIn text head (14 - offset) n p 0
-  no-byte l = sym (word-4 text head n p (14 - offset) (omega arith) ∙ rw (← e) (octets-of h small .0))
+    -- the first word: head and text joined
+    pub first-text : (h w : ℕ) → h ≡ head (dueFormat n p) → h < 2 ^ 32 → ((k : ℕ) → getD text k 0 < 256) → w ≡ wordOf (getD text at 0) (getD text (at + 1) 0) (getD text (at + 2) 0) (getD text (at + 3) 0) → h / 2 ^ (32 - (2 + offset) * 8) * 2 ^ (32 - (2 + offset) * 8) + w / 2 ^ ((2 + offset) * 8) ≡ wordIn text head (14 - offset) n p 0
+    first-text h w e small bytes ew =
+        let s : 16 - (14 - offset) ≡ 2 + offset = omega arith in
+        rw (ew, here, add-zero, e) (sym (rw (s, add-zero) at (first-word text bytes head (14 - offset) n p (rw e at small))))

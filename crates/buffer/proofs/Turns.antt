@@ -13,10 +13,14 @@ use Rattle.laws.specs.Pick.{pick}
 use Rattle.laws.specs.Lists.{upTo}
 use Rattle.laws.proofs.Pick.{below}
 use Rattle.laws.proofs.Lists.{length-upTo, upTo-below, upTo-rest}
+use Rattle.counts.specs.Counts.{firstWord, wrapped}
+use Rattle.counts.specs.declared.PacketNumber.{PacketNumber}
+use Rattle.counts.specs.declared.WordNumber.{WordNumber}
+use Rattle.counts.proofs.Wraps.{first-word}
 use Rattle.text.specs.Written.{wordIn, wordNew, wholeWords, blank, written}
 use Rattle.text.proofs.Written.{word-packet}
 use Rattle.fields.proofs.Filled.{Filled, none-filled, more-filled, kept-filled}
-use Rattle.buffer.specs.Acts.{setFour, clearFrom, formatted, fillText}
+use Rattle.buffer.specs.Acts.{setFour, packetSet, clearFrom, formatted, fillText}
 
 -- at the start, if f leaves the first i words unchanged
 pub found-filled : (i : ℕ) (f : ℕ → ℕ) (ws : List ℕ) → i ≤ length ws → ((k : ℕ) → k < i → f k ≡ getD ws k 0) → Filled i f ws ws
@@ -24,7 +28,7 @@ found-filled zero f ws l h = none-filled f ws
 found-filled (suc i) f ws l h = kept-filled (found-filled i f ws (omega arith) (λ k m. h k (omega arith))) (omega arith) (h i (omega arith))
 
 -- four more words
-pub four-filled : {f : ℕ → ℕ} {found ws : List ℕ} (g : ℕ → ℕ) (k : ℕ) → Filled k f found ws → k + 4 ≤ length found → g 0 ≡ f k → g 1 ≡ f (k + 1) → g 2 ≡ f (k + 2) → g 3 ≡ f (k + 3) → Filled (k + 4) f found (setFour g k ws)
+pub four-filled : {f : ℕ → ℕ} {found ws : List ℕ} (g : ℕ → ℕ) (k : ℕ) → Filled k f found ws → k + 4 ≤ length found → g 0 ≡ f k → g 1 ≡ f (k + 1) → g 2 ≡ f (k + 2) → g 3 ≡ f (k + 3) → Filled (k + 4) f found (packetSet g k ws)
 four-filled {f} {found} g k w h e₀ e₁ e₂ e₃ =
     let s₂ : k + 1 + 1 ≡ k + 2 = omega arith in
     let s₃ : k + 2 + 1 ≡ k + 3 = omega arith in
@@ -34,8 +38,16 @@ four-filled {f} {found} g k w h e₀ e₁ e₂ e₃ =
     let three = (rw s₃ at (more-filled two (g 2) (omega arith) e₂)) in
     rw s₄ at (more-filled three (g 3) (omega arith) e₃)
 
+-- four words, each the one that f gives
+pub four-set : (f : ℕ → ℕ) (ws : List ℕ) (a b c d k k′ : ℕ) → a ≡ f 0 → b ≡ f 1 → c ≡ f 2 → d ≡ f 3 → k′ ≡ k → setFour a b c d k′ ws ≡ packetSet f k ws
+four-set f ws a b c d k k′ ea eb ec ed ek = rw (ea, eb, ec, ed, ek)
+
+-- the first word of a packet, as the code has it
+pub word-of : (p : PacketNumber) (w : WordNumber) → p .0 ≤ 64 → w ≡ wrapped (firstWord p) → w .0 ≡ p .0 * 4
+word-of p w h e = ap (λ (x : WordNumber). x .0) (e ∙ first-word (p .0) (omega arith))
+
 -- the four words of a packet
-pub text-more : (text : List ℕ) (head : ℕ → ℕ) (cap n p : ℕ) {found ws : List ℕ} → Filled (p * 4) (wordNew text head cap n) found ws → p < n → p * 4 + 4 ≤ length found → Filled ((p + 1) * 4) (wordNew text head cap n) found (setFour (wordIn text head cap n p) (p * 4) ws)
+pub text-more : (text : List ℕ) (head : ℕ → ℕ) (cap n p : ℕ) {found ws : List ℕ} → Filled (p * 4) (wordNew text head cap n) found ws → p < n → p * 4 + 4 ≤ length found → Filled ((p + 1) * 4) (wordNew text head cap n) found (packetSet (wordIn text head cap n p) (p * 4) ws)
 text-more text head cap n p {found} {ws} w h l =
     let m : p * 4 + 4 ≡ (p + 1) * 4 = omega arith in
     let z = word-packet text head cap n p 0 h (omega arith) in

@@ -8,9 +8,13 @@ use Rattle.laws.specs.Bits.{putField}
 use Rattle.laws.specs.Lists.{upTo}
 use Rattle.text.specs.Written.{wholeWords, written}
 
+-- four words from word k on
+abbrev pub setFour : ℕ → ℕ → ℕ → ℕ → ℕ → List ℕ → List ℕ
+setFour a b c d k ws = set (set (set (set ws k a) (k + 1) b) (k + 2) c) (k + 3) d
+
 -- f 0, .., f 3 in the four words from word k on
-abbrev pub setFour : (ℕ → ℕ) → ℕ → List ℕ → List ℕ
-setFour f k ws = set (set (set (set ws k (f 0)) (k + 1) (f 1)) (k + 2) (f 2)) (k + 3) (f 3)
+abbrev pub packetSet : (ℕ → ℕ) → ℕ → List ℕ → List ℕ
+packetSet f k ws = setFour (f 0) (f 1) (f 2) (f 3) k ws
 
 -- every word from word `from` on zero, up to the end of the last whole packet
 unfoldable pub clearFrom : ℕ → List ℕ → List ℕ

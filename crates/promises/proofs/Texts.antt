@@ -26,7 +26,7 @@ use Rattle.standard.specs.Words.{putWord, headOf, textWritten, encodeIn, actIn}
 use Rattle.promises.specs.Good.{GoodValuesIn}
 use Rattle.slots.proofs.Tables.{reads-words, put-alike}
 use Rattle.standard.proofs.OneWord.{put-those-word}
-use Rattle.standard.proofs.TextHead.{lowText, first-splits, head-small, head-first}
+use Rattle.standard.proofs.TextHead.{lowText, low-small, first-splits, head-small, head-first}
 use Rattle.text.proofs.Rewritten.{written-over, each-first}
 use Rattle.kinds.proofs.Rows.{TextRow}
 use Rattle.kinds.proofs.Fields.{same-true, same-refl, same-swap, value-text}
@@ -62,8 +62,8 @@ module _ (r : Row) (x : Text) (from : ℕ) (k : TextRow r from) (ws : List ℕ) 
 
     bare-head : (p : ℕ) → topBits (bare p) ≡ topBits (headWord (r .status) (dueFormat count p))
     bare-head p =
-        let h = first-splits text small count p (headWord (r .status)) (head-small (r .status) (dueFormat count p) (k .status) (due-format-small count p)) from (k .least) (k .most) in
-        ap topBits (h .1) ∙ get-above (headWord (r .status) (dueFormat count p)) 0 (32 - from * 8) (lowText text small count p from) 16 16 (h .0) (let l = k .least in omega arith)
+        let h = first-splits text small count p (headWord (r .status)) (head-small (r .status) (dueFormat count p) (k .status) (due-format-small count p)) from (k .most) in
+        ap topBits h ∙ get-above (headWord (r .status) (dueFormat count p)) 0 (32 - from * 8) (lowText text small count p from) 16 16 (low-small text small count p from) (let l = k .least in omega arith)
 
     word-put : (u : Field → List ℕ) → fits (r .fields) (parts u) ≡ true → (p : ℕ) → wordIn text (headOf r u) cap count p 0 ≡ putWord (r .fields) (parts u) (bare p)
     word-put u f p = head-first text small count p from (r .status) (k .least) (k .most) (k .status) (r .fields) (k .text) (k .bits) (k .first) (parts u) f

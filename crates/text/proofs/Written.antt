@@ -46,12 +46,20 @@ module _ (text : List ℕ) (head : ℕ → ℕ) (cap n : ℕ) where
     unfolding written
     at-rest k h = upTo-rest _ _ ws k h
 
+    -- the one to three words after the last whole packet are kept
+    pub tail-kept : (m r : ℕ) → length ws ≡ m * 4 + r → r < 4 → (i : ℕ) → getD (written ws text head cap n) (m * 4 + i) 0 ≡ getD ws (m * 4 + i) 0
+    tail-kept m r e h i = at-rest (m * 4 + i) (omega (arith, e))
+
     pub word-at : (p q : ℕ) → n * 4 ≤ length ws → p < n → q < 4 → getD (written ws text head cap n) (p * 4 + q) 0 ≡ wordIn text head cap n p q
     word-at p q hw hp hq = at-whole (p * 4 + q) (omega arith) ∙ word-packet p q hp hq
 
 pub length-blank : (head : ℕ) (ws : List ℕ) → length (blank head ws) ≡ length ws
 unfolding blank
 length-blank head ws = length-upTo _ _ ws
+
+pub blank-kept : (head : ℕ) (ws : List ℕ) (m r : ℕ) → length ws ≡ m * 4 + r → r < 4 → (i : ℕ) → getD (blank head ws) (m * 4 + i) 0 ≡ getD ws (m * 4 + i) 0
+unfolding blank
+blank-kept head ws m r e h i = upTo-rest _ _ ws (m * 4 + i) (omega (arith, e))
 
 pub blank-first : (head : ℕ) (ws : List ℕ) → 4 ≤ length ws → getD (blank head ws) 0 0 ≡ head
 unfolding blank

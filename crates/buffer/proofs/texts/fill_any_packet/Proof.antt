@@ -1,32 +1,32 @@
--- `texts::fill_any_packet` meets its contract, by the laws of `Rewritten`.
+-- `texts::fill_any_packet` meets its contract, by the laws of `Turns`: four words of one head.
 use Prim.Native.Nat.{_-_}
-use Rattle.buffer.specs.Acts.{formatted}
+use mathlib.Core.Path.{_∙_}
 use native.Mathlib.Omega.{arith}
-use lib.ListN.{length-set}
-use Rattle.text.proofs.Rewritten.{word-past}
+use Rattle.text.specs.Written.{wordIn}
+use Rattle.buffer.specs.Acts.{formatted}
+use Rattle.buffer.proofs.Octets.{same-head}
+use Rattle.buffer.proofs.Turns.{word-of, four-set}
 use borrow.Author.Needs.{needs}
 use Rattle.buffer.proofs.texts.fill_any_packet.Statement.{statement}
 use Rattle.buffer.proofs.texts.fill_any_packet.Tie as tie
 
-slice-write-words-2 : tie.Need-slice-write-words-2
-slice-write-words-2 c = simp length-set (search needs)
-
-slice-write-words-3 : tie.Need-slice-write-words-3
-slice-write-words-3 c = simp length-set (search needs)
-
-slice-write-words-4 : tie.Need-slice-write-words-4
-slice-write-words-4 c = simp length-set (search needs)
+put-four-requires : tie.Need-put-four-requires
+put-four-requires c κs =
+    let s = c .before .before .before .before .before .before .before .before .before in
+    omega (arith, s .pre .2, word-of (s .args .packet) (c .first-word .result) (omega (arith, s .pre .1)) (c .first-word .ensures))
 
 returns : tie.Need-returns
 returns c =
-    let a = c .before .before .before .before .before .before .args in
-    rw (c .before .before .before .first-word .ensures, c .before .before .later-word .ensures, c .before .later-word2 .ensures, c .later-word3 .ensures)
-    (rw (word-past (a .text .now) (14 - a .offset) (λ f. 0) (formatted (a .head)) 0 (a .n) (a .p) 1 (omega arith), word-past (a .text .now) (14 - a .offset) (λ f. 0) (formatted (a .head)) 0 (a .n) (a .p) 2 (omega arith), word-past (a .text .now) (14 - a .offset) (λ f. 0) (formatted (a .head)) 0 (a .n) (a .p) 3 (omega arith)))
+    let s = c .before .before .before .before .before .before .before .before .before .before .before .before in
+    let a = s .args in
+    let h = c .before .before .before .before .before .before .before .before .before .head-of .ensures in
+    let e = same-head (a .text .now) (formatted (a .head)) (14 - a .offset) (a .packets .0) (a .packet .0) in
+    c .before .before .put-four .ensures
+    ∙ four-set (wordIn (a .text .now) (formatted (a .head)) (14 - a .offset) (a .packets .0) (a .packet .0)) (a .words .now) _ _ _ _ _ _
+    (c .before .before .before .before .before .before .before .before .word-in .ensures ∙ e 0 _ h) (c .before .before .before .before .before .before .before .word-in2 .ensures ∙ e 1 _ h) (c .before .before .before .before .before .before .word-in3 .ensures ∙ e 2 _ h) (c .before .before .before .before .before .word-in4 .ensures ∙ e 3 _ h)
+    (word-of (a .packet) _ (omega (arith, s .pre .1)) (c .before .before .before .first-word .ensures))
 
 pub fill-any-packet-spec : {M : Type 1} → statement M
 fill-any-packet-spec =
-    tie.close (tie.spec (λ c. search needs) (λ c κs. search needs) (λ c. search needs)
-    (λ c. search needs) (λ c κs. search needs) (λ c. search needs) (λ c. search needs)
-    slice-write-words-2 (λ c κs. search needs) (λ c. search needs) (λ c. search needs)
-    slice-write-words-3 (λ c κs. search needs) (λ c. search needs) (λ c. search needs)
-    slice-write-words-4 (λ c. search needs) returns)
+    tie.close (tie.spec (λ c κs. search needs) (λ c κs. search needs) (λ c κs. search needs)
+    (λ c κs. search needs) (λ c κs. search needs) (λ c κs. search needs) put-four-requires (λ c. search needs) returns)

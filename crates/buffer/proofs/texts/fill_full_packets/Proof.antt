@@ -14,10 +14,10 @@ use Rattle.buffer.proofs.texts.fill_full_packets.Statement.{statement}
 use Rattle.buffer.proofs.texts.fill_full_packets.Tie as tie
 
 abbrev Inv-loop : tie.InvT-loop
-Inv-loop words₀ text offset head n p₀ to₀ words p to = (p ≤ n) × (to ≡ p * (14 - offset) + (14 - offset)) × Filled (p * 4) (wordNew text (formatted head) (14 - offset) n) words₀ words
+Inv-loop words₀ text offset head packets n p₀ to₀ words p to = (p ≤ n) × (to ≡ p * (14 - offset) + (14 - offset)) × Filled (p * 4) (wordNew text (formatted head) (14 - offset) (packets .0)) words₀ words
 
 abbrev μ-loop : tie.MeasureT-loop
-μ-loop words₀ text offset head n p₀ to₀ words p to = n - p
+μ-loop words₀ text offset head packets n p₀ to₀ words p to = n - p
 
 -- where the next packet ends in the text
 next-place : (p cap to : ℕ) → to ≡ p * cap + cap → to + cap ≡ (p + 1) * cap + cap

@@ -10,10 +10,10 @@ use Rattle.buffer.proofs.texts.fill_packets.Statement.{statement}
 use Rattle.buffer.proofs.texts.fill_packets.Tie as tie
 
 abbrev Inv-loop : tie.InvT-loop
-Inv-loop words₀ text offset head n m p₀ words p = (p ≤ m) × Filled (p * 4) (wordNew text (formatted head) (14 - offset) n) words₀ words
+Inv-loop words₀ text offset head packets end p₀ words p = (p ≤ end) × Filled (p * 4) (wordNew text (formatted head) (14 - offset) (packets .0)) words₀ words
 
 abbrev μ-loop : tie.MeasureT-loop
-μ-loop words₀ text offset head n m p₀ words p = m - p
+μ-loop words₀ text offset head packets end p₀ words p = end - p
 
 loop-holds : tie.Need-loop-holds Inv-loop μ-loop
 loop-holds c = (omega arith, none-filled _ _)
@@ -21,7 +21,8 @@ loop-holds c = (omega arith, none-filled _ _)
 fill-any-packet-requires : tie.Need-fill-any-packet-requires Inv-loop μ-loop
 fill-any-packet-requires c κs =
     let s = c .before .before .before .before .before in
-    (s .pre .0, omega (arith, c .before .loop-test .taken, s .pre .1, s .pre .2), omega (arith, c .before .loop-test .taken, s .pre .3, c .before .before .loop .inv .1 .long))
+    let t = c .before .loop-test .taken in
+    (s .pre .0, omega (arith, t, s .pre .1, s .pre .2), omega (arith, t, s .pre .3, c .before .before .loop .inv .1 .long))
 
 loop-again : tie.Need-loop-again Inv-loop μ-loop
 loop-again c =
