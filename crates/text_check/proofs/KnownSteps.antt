@@ -4,18 +4,17 @@ use mathlib.Core.Path.{_≡_, sym, ap, _∙_}
 use mathlib.Core.Bool.{Bool, true, false, _&&_}
 use native.Mathlib.Omega.{arith}
 use lib.Dec.{T, eqb, eqb→eq, ltb}
-use borrow.Author.Tests.{eqb-true, ltb-true}
+use borrow.Author.Tests.{eqb-true}
 use Rattle.laws.specs.Pick.{pick}
 use Rattle.laws.proofs.Pick.{true-false, split}
 use Rattle.laws.proofs.EachBelow.{eachBelow, each-at, and-left, and-right, and-l, and-r, three-hold, four-hold, five-hold, six-hold, implied, implied-holds}
 use Rattle.counts.specs.Counts.{byte}
-use Rattle.counts.specs.declared.TextByteNumber.{TextByteNumber}
 use Rattle.utf8.specs.Scan.{leadingOnes, lengthByOnes, charLength, secondLow, secondHigh, tailsDue, afterFirstByte, afterByte}
 use Rattle.utf8.specs.declared.scan.Scan.{Scan}
 use Rattle.utf8.specs.declared.scan.Scan.the-variants.{Going, Stopped}
 use Rattle.text.specs.Octets.{octetOf}
 use Rattle.text.proofs.Back.{octet-small}
-use Rattle.text_check.specs.FastCheck.{afterTextByte, scanOf, numberOf, isE0ToEF, notE0OrED, simpleFirst, isTail, runOfTwo, runOfHalf, firstThree, lastThree, runNoneDue, runOneDue, runTwoDue, runOfFour, runOfTwelve, afterOctets, afterWord, asciiWord}
+use Rattle.text_check.specs.FastCheck.{afterTextByte, scanOf, numberOf, isE0ToEF, notE0OrED, simpleFirst, isTail, runOfOne, runOfTwo, firstThree, lastThree, runNoneDue, runOneDue, runTwoDue, runOfFour, runOfTwelve, afterOctets, afterWord, asciiWord}
 
 -- ---- one byte, with zeros dropped or kept
 
@@ -147,18 +146,48 @@ from-three s a b c e none one two =
     (λ x. split (eqb s 1) (λ y. one (eqb-true s 1 y) (rw (x, y) at e))
     (λ y. split (eqb s 2) (λ z. two (eqb-true s 2 z) (rw (x, y, z) at e)) (λ z. true-false (sym (rw (x, y, z) at e)))))
 
--- two bytes of a run
+-- such a byte is below 256
+first-small : (b : ℕ) → simpleFirst b ≡ true → b < 256
+first-small b e = let h = eqb-true (b / 16) 14 (and-l (isE0ToEF b) (notE0OrED b) e) in omega arith
+
+tail-small : (b : ℕ) → isTail b ≡ true → b < 256
+tail-small b e = let h = eqb-true (b / 64) 2 e in omega arith
+
+-- a byte of a run
+record OneStep (s b : ℕ) : Type 0 where
+  few : s < 3
+  small : b < 256
+  one : afterTextByte (tails s) b ≡ tails ((s + 2) % 3)
+
+one-step : (s b : ℕ) → runOfOne s b ≡ true → OneStep s b
+unfolding runOfOne
+one-step s b e =
+    from-three s (simpleFirst b) (isTail b) (isTail b) e
+    (λ x t. record { few = omega arith; small = first-small b t; one = rw x (opens b (first-small b t) t .dropping) })
+    (λ x t. record { few = omega arith; small = tail-small b t; one = rw x (tail-last b (tail-small b t) t .dropping) })
+    (λ x t. record { few = omega arith; small = tail-small b t; one = rw x (tail-first b (tail-small b t) t .dropping) })
+
+-- two bytes of a run are one and another
+two-ones : (s a b : ℕ) → runOfTwo s a b ≡ true → (runOfOne s a ≡ true) × (runOfOne ((s + 2) % 3) b ≡ true)
+unfolding runOfTwo runOfOne
+two-ones s a b e =
+    from-three s (simpleFirst a && isTail b) (isTail a && simpleFirst b) (isTail a && isTail b) e
+    (λ x t. rw x (and-l (simpleFirst a) (isTail b) t, and-r (simpleFirst a) (isTail b) t))
+    (λ x t. rw x (and-l (isTail a) (simpleFirst b) t, and-r (isTail a) (simpleFirst b) t))
+    (λ x t. rw x (and-l (isTail a) (isTail b) t, and-r (isTail a) (isTail b) t))
+
 record TwoSteps (s a b : ℕ) : Type 0 where
   few : s < 3
+  first-below : a < 256
   two : afterTextByte (afterTextByte (tails s) a) b ≡ tails ((s + 1) % 3)
 
-two-steps : (s a b : ℕ) → a < 256 → b < 256 → runOfTwo s a b ≡ true → TwoSteps s a b
-unfolding runOfTwo
-two-steps s a b la lb e =
-    from-three s (simpleFirst a && isTail b) (isTail a && simpleFirst b) (isTail a && isTail b) e
-    (λ x t. record { few = omega arith; two = rw (x, opens a la (and-l (simpleFirst a) (isTail b) t) .dropping) (tail-first b lb (and-r (simpleFirst a) (isTail b) t) .dropping) })
-    (λ x t. record { few = omega arith; two = rw (x, tail-last a la (and-l (isTail a) (simpleFirst b) t) .dropping) (opens b lb (and-r (isTail a) (simpleFirst b) t) .dropping) })
-    (λ x t. record { few = omega arith; two = rw (x, tail-first a la (and-l (isTail a) (isTail b) t) .dropping) (tail-last b lb (and-r (isTail a) (isTail b) t) .dropping) })
+two-steps : (s a b : ℕ) → runOfTwo s a b ≡ true → TwoSteps s a b
+two-steps s a b e =
+    let r = two-ones s a b e in
+    let k = one-step s a (r .0) in
+    let l = one-step ((s + 2) % 3) b (r .1) in
+    let m : ((s + 2) % 3 + 2) % 3 ≡ (s + 1) % 3 = omega arith in
+    record { few = k .few; first-below = k .small; two = rw (k .one, sym m) (l .one) }
 
 -- ---- the same, from number to number
 
@@ -186,31 +215,42 @@ known {s} {w} {t} h e = record { few = h; after = ap (λ (k : Scan). numberOf (a
 pub ascii-word-stays : (w : ℕ) → asciiWord w ≡ true → afterWord 0 w ≡ 0
 ascii-word-stays w e = known {s = 0} {w = w} {t = 0} (omega arith) (word-steps (ascii-steps w e)) .after
 
--- two bytes of a run in a half of a word, where the other half is zero
 zero-dropped : (k : Scan) (b : ℕ) → b ≡ 0 → afterTextByte k b ≡ k
 unfolding afterTextByte
 zero-dropped k b e = rw e
 
-first-zero : (w : ℕ) → w < 0x10000 → (octetOf w 0 ≡ 0) × (octetOf w 1 ≡ 0)
+-- two bytes of a run in the second half of a word, where the first is zero
+second-half : (w : ℕ) → w / 0x100 < 256 → (octetOf w 0 ≡ 0) × (octetOf w 1 ≡ 0) × (octetOf w 2 ≡ w / 0x100) × (octetOf w 3 ≡ w % 0x100)
 unfolding octetOf
-first-zero w h = (omega arith, omega arith)
+second-half w h = (omega arith, omega arith, omega arith, omega arith)
 
-last-zero : (w : ℕ) → w % 0x10000 ≡ 0 → (octetOf w 2 ≡ 0) × (octetOf w 3 ≡ 0)
+pub second-half-known : (s w : ℕ) → runOfTwo s (w / 0x100) (w % 0x100) ≡ true → Known s w ((s + 1) % 3)
+second-half-known s w e =
+    let k = two-steps s (w / 0x100) (w % 0x100) e in
+    let z = second-half w (k .first-below) in
+    known (k .few) (rw (zero-dropped (tails s) (octetOf w 0) (z .0), zero-dropped (tails s) (octetOf w 1) (z .1), z .2, z .3) (k .two))
+
+-- one byte of a run in the last octet of a word, where the others are zero
+last-octet : (w : ℕ) → w < 256 → (octetOf w 0 ≡ 0) × (octetOf w 1 ≡ 0) × (octetOf w 2 ≡ 0) × (octetOf w 3 ≡ w)
 unfolding octetOf
-last-zero w h = (omega arith, omega arith)
+last-octet w h = (omega arith, omega arith, omega arith, omega arith)
 
-pub half-known : (s w : ℕ) → runOfHalf s w ≡ true → Known s w ((s + 1) % 3)
-unfolding runOfHalf
-half-known s w e =
-    split (ltb w 0x10000) (λ x.
-    let z = first-zero w (ltb-true w 0x10000 x) in
-    let k = two-steps s (octetOf w 2) (octetOf w 3) (octet-small w 2) (octet-small w 3) (rw x at e) in
-    known (k .few) (rw (zero-dropped (tails s) (octetOf w 0) (z .0), zero-dropped (tails s) (octetOf w 1) (z .1)) (k .two)))
-    (λ x. split (eqb (w % 0x10000) 0) (λ y.
-    let z = last-zero w (eqb-true (w % 0x10000) 0 y) in
-    let k = two-steps s (octetOf w 0) (octetOf w 1) (octet-small w 0) (octet-small w 1) (rw (x, y) at e) in
-    known (k .few) (zero-dropped _ (octetOf w 3) (z .1) ∙ zero-dropped _ (octetOf w 2) (z .0) ∙ k .two))
-    (λ y. true-false (sym (rw (x, y) at e))))
+pub last-octet-known : (s w : ℕ) → runOfOne s w ≡ true → Known s w ((s + 2) % 3)
+last-octet-known s w e =
+    let k = one-step s w e in
+    let z = last-octet w (k .small) in
+    known (k .few) (rw (zero-dropped (tails s) (octetOf w 0) (z .0), zero-dropped (tails s) (octetOf w 1) (z .1), zero-dropped (tails s) (octetOf w 2) (z .2), z .3) (k .one))
+
+-- two bytes of a run in the first half of a word, where the second is zero
+first-half : (w : ℕ) → w % 0x10000 ≡ 0 → (octetOf w 2 ≡ 0) × (octetOf w 3 ≡ 0)
+unfolding octetOf
+first-half w h = (omega arith, omega arith)
+
+pub first-half-known : (s w : ℕ) → w % 0x10000 ≡ 0 → runOfTwo s (octetOf w 0) (octetOf w 1) ≡ true → Known s w ((s + 1) % 3)
+first-half-known s w h e =
+    let k = two-steps s (octetOf w 0) (octetOf w 1) e in
+    let z = first-half w h in
+    known (k .few) (zero-dropped _ (octetOf w 3) (z .1) ∙ zero-dropped _ (octetOf w 2) (z .0) ∙ k .two)
 
 -- four bytes of a run
 pub four-known : (s w : ℕ) → runOfFour s w ≡ true → Known s w ((s + 2) % 3)

@@ -1,5 +1,5 @@
 -- The fast check: the scan between words as one number, the looks that replace it for common text, and the masks that select the text of a packet's words.
-use Prim.Native.Nat.{ℕ, _+_, _-_, _*_, _/_, _%_, _^_, _≤_, _<_}
+use Prim.Native.Nat.{ℕ, _+_, _-_, _*_, _/_, _%_, _^_, _≤_}
 use mathlib.Core.Path.{_≡_}
 use mathlib.Core.Bool.{Bool, true, false, not, _&&_}
 use mathlib.Core.List.{List}
@@ -69,15 +69,13 @@ simpleFirst b = isE0ToEF b && notE0OrED b
 abbrev pub isTail : ℕ → Bool
 isTail b = eqb (b / 64) 2
 
--- two bytes continue a run of simple characters that has so many tails due: none, one or two
+-- a byte continues a run of simple characters that has so many tails due: none, one or two
+unfoldable pub runOfOne : ℕ → ℕ → Bool
+runOfOne due b = pick (eqb due 0) (simpleFirst b) (pick (eqb due 1) (isTail b) (pick (eqb due 2) (isTail b) false))
+
+-- two bytes continue it
 unfoldable pub runOfTwo : ℕ → ℕ → ℕ → Bool
 runOfTwo due a b = pick (eqb due 0) (simpleFirst a && isTail b) (pick (eqb due 1) (isTail a && simpleFirst b) (pick (eqb due 2) (isTail a && isTail b) false))
-
--- the same for the two octets of one half of a word, where the other half is zero
-unfoldable pub runOfHalf : ℕ → ℕ → Bool
-runOfHalf due w =
-    pick (ltb w 0x10000) (runOfTwo due (octetOf w 2) (octetOf w 3))
-    (pick (eqb (w % 0x10000) 0) (runOfTwo due (octetOf w 0) (octetOf w 1)) false)
 
 -- the first three octets of a word are a simple character
 unfoldable pub firstThree : ℕ → Bool
@@ -119,6 +117,10 @@ runAt text i = runNoneDue (bigEndianAt text i) && (runTwoDue (bigEndianAt text (
 -- all four octets are below 128
 unfoldable pub asciiWord : ℕ → Bool
 asciiWord w = ltb (octetOf w 0) 128 && (ltb (octetOf w 1) 128 && (ltb (octetOf w 2) 128 && ltb (octetOf w 3) 128))
+
+-- the same for four words
+abbrev pub asciiWords : ℕ → ℕ → ℕ → ℕ → Bool
+asciiWords a b c d = asciiWord a && (asciiWord b && (asciiWord c && asciiWord d))
 
 -- the number of bits in the last n octets of a word, at most 32
 unfoldable pub maskBits : ℕ → ℕ

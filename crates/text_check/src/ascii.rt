@@ -2,7 +2,7 @@
 ghost use mathlib.Core.Path.{_≡_};
 ghost use Prim.Native.Nat.{_<_};
 ghost use lib.ListN.{length};
-ghost use Rattle.text_check.specs.FastCheck.{asciiWord, asciiText, asciiPacket};
+ghost use Rattle.text_check.specs.FastCheck.{asciiWord, asciiWords, asciiText, asciiPacket};
 use crate::words::text_mask;
 use counts::PacketNumber;
 use counts::WordNumber;
@@ -21,6 +21,13 @@ pub(crate) fn ascii_word(w: u32) -> bool
         return false;
     }
     w % 256 < 128
+}
+
+// The same for four words.
+pub(crate) fn ascii_words(a: u32, b: u32, c: u32, d: u32) -> bool
+    ensures { λ r. ⌜ r ≡ asciiWords a b c d ⌝ }
+{
+    ascii_word(a) && (ascii_word(b) && (ascii_word(c) && ascii_word(d)))
 }
 
 // Whether the text octets of word `at` are all ASCII or zero.

@@ -1,6 +1,6 @@
 // Runs of simple three-byte characters, told by looks at several bytes. Simple: the first byte is E1..EF but not ED, so any two bytes of 80..BF may follow.
 ghost use mathlib.Core.Path.{_≡_};
-ghost use Rattle.text_check.specs.FastCheck.{isE0ToEF, notE0OrED, isTail, simpleFirst, runOfTwo, runOfHalf, firstThree, lastThree, runNoneDue, runOneDue, runTwoDue, runOfFour, runOfTwelve};
+ghost use Rattle.text_check.specs.FastCheck.{isE0ToEF, notE0OrED, isTail, simpleFirst, runOfOne, runOfTwo, firstThree, lastThree, runNoneDue, runOneDue, runTwoDue, runOfFour, runOfTwelve};
 
 // Whether b is one of E0..EF.
 fn is_e0_to_ef(b: u32) -> bool
@@ -30,8 +30,20 @@ fn simple_first(b: u32) -> bool
     is_e0_to_ef(b) && not_e0_or_ed(b)
 }
 
-// Whether two bytes continue a run of simple characters that has `due` tails due.
-fn run_of_two(due: u64, a: u32, b: u32) -> bool
+// Whether byte b continues a run of simple characters that has `due` tails due.
+pub(crate) fn run_of_one(due: u64, b: u32) -> bool
+    ensures { λ r. ⌜ r ≡ runOfOne due b ⌝ }
+{
+    match due {
+        0 => simple_first(b),
+        1 => is_tail(b),
+        2 => is_tail(b),
+        _ => false,
+    }
+}
+
+// Whether two bytes continue such a run.
+pub(crate) fn run_of_two(due: u64, a: u32, b: u32) -> bool
     ensures { λ r. ⌜ r ≡ runOfTwo due a b ⌝ }
 {
     match due {
@@ -40,19 +52,6 @@ fn run_of_two(due: u64, a: u32, b: u32) -> bool
         2 => is_tail(a) && is_tail(b),
         _ => false,
     }
-}
-
-// Whether the two octets of one half of w continue a run that has `due` tails due. The other half is zero: a packet's text starts in it, or has ended.
-pub(crate) fn run_of_half(due: u64, w: u32) -> bool
-    ensures { λ r. ⌜ r ≡ runOfHalf due w ⌝ }
-{
-    if w < 0x10000 {
-        return run_of_two(due, w / 0x100 % 0x100, w % 0x100);
-    }
-    if w % 0x10000 == 0 {
-        return run_of_two(due, w / 0x1000000 % 0x100, w / 0x10000 % 0x100);
-    }
-    false
 }
 
 // Whether the first three octets of w are a simple character. Here and below the high bits are tested first, so that LLVM joins these tests into one.

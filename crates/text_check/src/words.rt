@@ -6,24 +6,30 @@ ghost use Rattle.utf8.specs.Utf8.{firstBad};
 ghost use Rattle.text.specs.Bytes.{textOf};
 ghost use Rattle.text_check.specs.FastCheck.{isGood, afterWord, textMask};
 use crate::ascii::ascii_word;
+use crate::ascii::ascii_words;
 use crate::by_scan::BAD;
 use crate::by_scan::after_word_by_scan;
 use crate::three_byte_runs::run_of_four;
-use crate::three_byte_runs::run_of_half;
+use crate::three_byte_runs::run_of_one;
 use crate::three_byte_runs::run_of_twelve;
+use crate::three_byte_runs::run_of_two;
+use counts::PacketNumber;
 use counts::WordNumber;
 
-// The number after w, whose text is often one half: that of a packet's first word, or the text's last bytes.
-fn after_half_word(s: u64, w: u32) -> u64
+// The number after w, the first word of a packet: at most two of its octets are text, and one in a block name.
+fn after_first_word(s: u64, w: u32) -> u64
     ensures { λ r. ⌜ r ≡ afterWord s w ⌝ }
 {
-    if run_of_half(s, w) {
+    if run_of_two(s, w / 0x100, w % 0x100) {
         return (s + 1) % 3;
+    }
+    if run_of_one(s, w) {
+        return (s + 2) % 3;
     }
     after_word_by_scan(s, w)
 }
 
-// The number after w, whose text is often all four octets.
+// The number after w, another word of a packet. The text may end in it, and then its second half is zero.
 fn after_word(s: u64, w: u32) -> u64
     ensures { λ r. ⌜ r ≡ afterWord s w ⌝ }
 {
@@ -35,7 +41,12 @@ fn after_word(s: u64, w: u32) -> u64
             return 0;
         }
     }
-    after_half_word(s, w)
+    if w % 0x10000 == 0 {
+        if run_of_two(s, w / 0x1000000 % 0x100, w / 0x10000 % 0x100) {
+            return (s + 1) % 3;
+        }
+    }
+    after_word_by_scan(s, w)
 }
 
 // The number after three words.
@@ -53,13 +64,11 @@ fn after_packet(s: u64, a: u32, b: u32, c: u32, d: u32) -> u64
     ensures { λ r. ⌜ r ≡ afterWord (afterWord (afterWord (afterWord s a) b) c) d ⌝ }
 {
     if s == 0 {
-        if ascii_word(a) && ascii_word(b) {
-            if ascii_word(c) && ascii_word(d) {
-                return 0;
-            }
+        if ascii_words(a, b, c, d) {
+            return 0;
         }
     }
-    after_three_words(after_half_word(s, a), b, c, d)
+    after_three_words(after_first_word(s, a), b, c, d)
 }
 
 // The mask that keeps a word's text: its last (end - offset) octets, at most four.
@@ -91,8 +100,8 @@ pub(crate) fn is_good(words: &[u32], offset: usize) -> bool
     let mut s: u64 = 0;
     let mut p = 0;
     while p < n {
-        // the formula of `counts::first_word`, bare: its `%` would stand in every turn
-        let k = p * 4;
+        let first = counts::first_word(PacketNumber(p));
+        let k = first.0;
         s = after_packet(
             s,
             words[k] & m0,

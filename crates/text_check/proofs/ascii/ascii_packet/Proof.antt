@@ -7,7 +7,6 @@ use borrow.Author.Needs.{needs}
 use borrow.Author.Tests.{le-leb, lt-leb}
 use Rattle.laws.specs.Pick.{both}
 use Rattle.laws.proofs.Pick.{here, past}
-use Rattle.counts.specs.declared.PacketNumber.{PacketNumber}
 use Rattle.counts.specs.declared.WordNumber.{WordNumber}
 use Rattle.counts.proofs.Wraps.{first-word}
 use Rattle.text_check.specs.FastCheck.{asciiPacket}

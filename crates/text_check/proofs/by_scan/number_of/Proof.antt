@@ -1,5 +1,4 @@
 -- `by_scan::number_of` meets its contract: by cases on the scan.
-use native.Mathlib.Omega.{arith}
 use Rattle.text_check.specs.FastCheck.{numberOf}
 use borrow.Author.Needs.{needs}
 use Rattle.text_check.proofs.by_scan.number_of.Statement.{statement}
