@@ -2,11 +2,11 @@
 use mathlib.Core.Path.{refl}
 use Rattle.laws.specs.Lists.{map, nonzero}
 use Rattle.utf8.specs.Utf8.{dueAfter, firstBad}
-use Rattle.utf8.specs.Scan.{leadingOnes, lengthByOnes, charLength, neverFirst}
+use Rattle.utf8.specs.Scan.{leadingOnes, lengthByOnes, charLength, secondLow, secondHigh, afterFirstByte}
 use Rattle.utf8.specs.Told.{ToldUtf8}
 
 pub told-utf8 : ToldUtf8
-unfolding map nonzero dueAfter firstBad leadingOnes lengthByOnes charLength neverFirst
+unfolding map nonzero dueAfter firstBad leadingOnes lengthByOnes charLength secondLow secondHigh afterFirstByte
 told-utf8 =
     record {
       empty = refl;
@@ -44,4 +44,5 @@ told-utf8 =
       four-ones = refl;
       more-ones = refl;
       barred = refl;
+      not-barred = refl;
     }

@@ -1,13 +1,13 @@
 -- Document 01's UTF-8 told once more, by examples in plain bytes: each edge of RFC 3629's UTF8-char, where the first bad character starts, and a character's length.
 use Prim.Native.Nat.{ℕ}
 use mathlib.Core.Path.{_≡_}
-use mathlib.Core.Bool.{true, false}
 use mathlib.Core.List.{List, [], _∷_}
 use Rattle.laws.specs.Lists.{map}
 use Rattle.counts.specs.Counts.{byte}
 use Rattle.utf8.specs.declared.Utf8.the-variants.{Good, BadAt}
+use Rattle.utf8.specs.declared.scan.Scan.the-variants.{Going, Stopped}
 use Rattle.utf8.specs.Utf8.{firstBad}
-use Rattle.utf8.specs.Scan.{charLength, neverFirst, newSkippingScan, verdictAfter}
+use Rattle.utf8.specs.Scan.{charLength, afterFirstByte, newSkippingScan, verdictAfter}
 
 -- each of these texts is good
 abbrev Taken : List (List ℕ) → Type 0
@@ -69,4 +69,5 @@ pub record ToldUtf8 : Type 0 where
   pub four-ones : map charLength (0xF0 ∷ 0xF7 ∷ []) ≡ 4 ∷ 4 ∷ []
   pub more-ones : map charLength (0xF8 ∷ 0xFB ∷ 0xFC ∷ 0xFD ∷ 0xFE ∷ 0xFF ∷ []) ≡ 0 ∷ 0 ∷ 0 ∷ 0 ∷ 0 ∷ 0 ∷ []
   -- barred first bytes: C0, C1, F5 to FF
-  pub barred : map neverFirst (0xBF ∷ 0xC0 ∷ 0xC1 ∷ 0xC2 ∷ 0xF4 ∷ 0xF5 ∷ 0xF7 ∷ 0xFF ∷ []) ≡ false ∷ true ∷ true ∷ false ∷ false ∷ true ∷ true ∷ true ∷ []
+  pub barred : map (afterFirstByte (byte 3)) (0xC0 ∷ 0xC1 ∷ 0xF5 ∷ 0xF7 ∷ 0xFF ∷ []) ≡ Stopped (byte 3) ∷ Stopped (byte 3) ∷ Stopped (byte 3) ∷ Stopped (byte 3) ∷ Stopped (byte 3) ∷ []
+  pub not-barred : map (afterFirstByte (byte 3)) (0xC2 ∷ 0xF4 ∷ []) ≡ Going 1 0x80 0xBF (byte 3) ∷ Going 3 0x80 0x8F (byte 3) ∷ []
