@@ -106,6 +106,9 @@ pub record ToldFraming : Type 0 where
   pub end-outside : Walks (after (heads (0xFC030000 ∷ 0xF0030000 ∷ []))) 1 (refusedTo 5 7 0)
   pub complete-inside : Walks (heads (0xF4030000 ∷ 0xF0030000 ∷ 0xF0030000 ∷ [])) 0 (refusedTo 4 7 1)
   pub start-inside : Walks (heads (0xF4030000 ∷ 0xF8030000 ∷ 0xF4030000 ∷ [])) 0 (refusedTo 4 7 2)
+  -- before the status is looked at
+  pub unknown-outside : Walks (after (heads (0xFC780000 ∷ []))) 1 (refusedTo 5 7 0)
+  pub unknown-inside : Walks (heads (0xF4780000 ∷ 0xF0780000 ∷ [])) 0 (refusedTo 4 7 1)
   -- 4 and 6 in framing: four words on
   pub type : Walks (after (heads (0xF4030000 ∷ 0xF8030000 ∷ 0x3C030000 ∷ []))) 1 (refusedTo 5 4 2)
   pub status : Walks (after (heads (0xF4030000 ∷ 0xFC040000 ∷ []))) 1 (refusedTo 5 6 1)
