@@ -6,6 +6,7 @@ use Rattle.laws.specs.Lists.{each}
 use Rattle.kinds.specs.Fields.{same, decided}
 use Rattle.kinds.specs.Layout.{layout}
 use Rattle.records.specs.Records.{fieldsIn, lookup, firstPart}
+use Rattle.counts.specs.declared.WordNumber.{WordNumber}
 use Rattle.c_structs.specs.Crossed.{walkCrossed}
 use Rattle.walking.proofs.Other.{size-found}
 use Rattle.frayedbin.proofs.Walks.{case-crossed, message-crossed}
@@ -17,12 +18,12 @@ pub frayedbin-walk-spec : {M : Type 1} → statement M
 unfolding each layout firstPart fieldsIn lookup same decided
 frayedbin-walk-spec =
     tie.close (tie.spec (λ c κs. search needs)
-    (λ c. let some : 0 < c .before .other-size .result = omega arith in omega (arith, size-found _ _ _ (c .before .other-size .ensures) some .0))
-    (λ c. let some : 0 < c .before .before .other-size .result = omega arith in omega (arith, size-found _ _ _ (c .before .before .other-size .ensures) some .0))
+    (λ c. let some : 0 < c .before .other-size .result .0 = omega arith in omega (arith, size-found _ _ _ (ap (λ (x : WordNumber). x .0) (c .before .other-size .ensures)) some .0))
+    (λ c. let some : 0 < c .before .before .other-size .result .0 = omega arith in omega (arith, size-found _ _ _ (ap (λ (x : WordNumber). x .0) (c .before .before .other-size .ensures)) some .0))
     (λ c κs. search needs) (λ c. search needs)
-    (λ c. let some : 0 < c .before .before .before .other-size .result = omega arith in omega (arith, size-found _ _ _ (c .before .before .before .other-size .ensures) some .0))
+    (λ c. let some : 0 < c .before .before .before .other-size .result .0 = omega arith in omega (arith, size-found _ _ _ (ap (λ (x : WordNumber). x .0) (c .before .before .before .other-size .ensures)) some .0))
     (λ c κs. search needs)
-    (λ c. let some : 0 < c .before .before .before .before .other-size .result = omega arith in c .of-other .ensures ∙ rw (c .before .type-of .ensures) (ap walkCrossed (size-found _ _ _ (c .before .before .before .before .other-size .ensures) some .1)))
+    (λ c. let some : 0 < c .before .before .before .before .other-size .result .0 = omega arith in c .of-other .ensures ∙ rw (c .before .type-of .ensures) (ap walkCrossed (size-found _ _ _ (ap (λ (x : WordNumber). x .0) (c .before .before .before .before .other-size .ensures)) some .1)))
     (λ c. search needs) (λ c. search needs) (λ c. search needs) (λ c κs. search needs)
     (λ c. search needs) (λ c κs. search needs)
     (λ c. case-crossed _ _ (c .before .before .before .walk .ensures) (c .before .enum-told .given .1) (c .of-end .ensures))
