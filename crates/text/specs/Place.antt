@@ -1,10 +1,10 @@
 -- Reading text one byte at a time: the step from a text place.
-use Prim.Native.Nat.{ℕ, suc, _+_, _*_, _/_, _%_}
+use Prim.Native.Nat.{ℕ, suc, _/_, _%_}
 use mathlib.Core.List.{List, [], _∷_}
 use lib.ListN.{length, drop}
 use lib.Dec.{leb, eqb}
 use Rattle.laws.specs.Pick.{pick}
-use Rattle.counts.specs.Counts.{packet, byte}
+use Rattle.counts.specs.Counts.{packet, byte, byteOfText}
 use Rattle.text.specs.Bytes.{textByte, allBytes}
 use Rattle.text.specs.declared.TextPlace.{TextPlace}
 use Rattle.text.specs.declared.TextStep.{TextStep}
@@ -17,7 +17,7 @@ textPlaceAt cap m = record { packet = packet (m / cap); byte = byte (m % cap) }
 
 -- the byte number of a place
 abbrev pub byteFrom : ℕ → TextPlace → ℕ
-byteFrom cap at = at .packet .0 * cap + at .byte .0
+byteFrom cap at = byteOfText cap (at .packet) (at .byte) .0
 
 -- the text byte at a place; 0 if no whole packet has such a byte
 unfoldable pub byteAt : List ℕ → ℕ → TextPlace → ℕ
