@@ -42,7 +42,7 @@ module _ (d : ℕ) (ws : List ℕ) where
       rw (left-same at, getD-drop d ws at 0, from-dropped left status (suc p) (at + 4), next)
 
   part-dropped : (pos n : ℕ) → part (drop d ws) pos n ≡ part ws (d + pos) n
-  part-dropped pos n = let e : d + pos + n * 4 - (d + pos) ≡ pos + n * 4 - pos = omega arith in rw (drop-drop pos d ws, e)
+  part-dropped pos n = rw (drop-drop pos d ws)
 
   framed-dropped : (f : Framed) (pos : ℕ) → d ≤ length ws → later d (framedOf f (drop d ws) pos) ≡ framedOf f ws (d + pos)
   unfolding framedOf

@@ -71,7 +71,7 @@ module _ (ws more : List ℕ) where
   -- the words of a framed message are the same
   part-stays : (pos n : ℕ) → pos + n * 4 ≤ length ws → part (ws ++ more) pos n ≡ part ws pos n
   part-stays pos n h =
-      rw (drop-append-le pos ws more (omega arith)) (take-append-le (pos + n * 4 - pos) (drop pos ws) more (omega (arith, length-drop pos ws)))
+      rw (drop-append-le pos ws more (omega arith)) (take-append-le (n * 4) (drop pos ws) more (omega (arith, length-drop pos ws)))
 
   -- ---- the walk
   framed-final : (f g : Framed) (pos : ℕ) → Room ws pos f → Stays f g → final (framedOf f ws pos) ≡ true → framedOf g (ws ++ more) pos ≡ framedOf f ws pos

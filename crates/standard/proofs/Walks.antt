@@ -31,7 +31,7 @@ part-length ws pos n h = simp (length-take, length-drop) (omega arith)
 
 -- ---- a packet's first word, in the part and in the stream
 pub part-head : (ws : List ℕ) (pos n p : ℕ) → p < n → headAt (part ws pos n) p ≡ getD ws (pos + p * 4) 0
-part-head ws pos n p h = let l : p * 4 < pos + n * 4 - pos = omega arith in rw (getD-take, getD-drop)
+part-head ws pos n p h = let l : p * 4 < n * 4 = omega arith in rw (getD-take, getD-drop)
 
 -- ---- the chain rule accepts the due format of each packet
 due-ends : (n p : ℕ) → p + 1 ≡ n → Ends ≡ stepOf p (dueFormat n p)

@@ -60,7 +60,7 @@ walkedOf (R.Refused r) next = W.Refused r (word next)
 
 -- the words of the n packets at a position
 abbrev pub part : List ℕ → ℕ → ℕ → List ℕ
-part ws pos n = take (pos + n * 4 - pos) (drop pos ws)
+part ws pos n = take (n * 4) (drop pos ws)
 
 -- after refusal 1 the next position is the length, after any other framing refusal four words on
 unfoldable pub framedOf : Framed → List ℕ → ℕ → Walked
