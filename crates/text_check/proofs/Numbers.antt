@@ -83,19 +83,23 @@ waits : (xs : List ℕ) → isGood (verdictFrom (going (0xFF ‥ 0x80 ∷ []) 0)
 waits [] = refl
 waits (x ∷ xs) = ap (λ (t : Bool). isGood (verdictFrom (pick t (going [] 0) (stopped 0)) 1 xs)) (no-byte x) ∙ ap isGood (verdict-stopped 0 1 xs)
 
-parts : (x l d : ℕ) → x < 0x40 → l < 0x80 → d < 0x100 → ((x * 0x10000 + l * 0x100 + d) % 0x100 ≡ d) × ((x * 0x10000 + l * 0x100 + d) / 0x100 % 0x80 ≡ l) × ((x * 0x10000 + l * 0x100 + d) / 0x10000 % 0x40 ≡ x)
-parts x l d hx hl hd =
-    let q : (x * 0x10000 + l * 0x100 + d) / 0x100 ≡ x * 0x100 + l = omega arith in
-    (omega arith, rw q (omega arith), omega arith)
+-- the parts of the number give the scan back
+parts : (due low high : ℕ) (start : TextByteNumber) → Narrow (Going due low high start) →
+    let s = numberOf (Going due low high start) in
+    (s % 0x100 ≡ due) × (0x80 + s / 0x100 % 0x80 ≡ low) × (0xBF - s / 0x10000 % 0x40 ≡ high)
+unfolding numberOf
+parts due low high start h =
+    let s = numberOf (Going due low high start) in
+    let q : s / 0x100 ≡ (0x3F - high % 0x40) * 0x100 + low % 0x80 = omega (arith, h .0) in
+    let r : s / 0x10000 ≡ 0x3F - high % 0x40 = omega (arith, h .0) in
+    (omega (arith, h .0), rw q (omega (arith, h .1, h .2)), rw r (omega (arith, h .3, h .4)))
 
 number-same : (k : Scan) (xs : List ℕ) → Narrow k → isGood (verdictFrom (meaning (scanOf (numberOf k))) 0 xs) ≡ isGood (verdictFrom (meaning k) 0 xs)
 unfolding scanOf numberOf
 number-same (Stopped n) xs h = waits xs ∙ sym (ap isGood (verdict-stopped (n .0) 0 xs))
 number-same (Going due low high start) xs h =
-    let p = parts (0x3F - high % 0x40) (low % 0x80) due (omega arith) (omega arith) (h .0) in
-    let l : 0x80 + low % 0x80 ≡ low = omega (arith, h .1, h .2) in
-    let g : 0xBF - (0x3F - high % 0x40) ≡ high = omega (arith, h .3, h .4) in
-    rw (p .0, p .1, p .2, l, g) (any-start xs (some (dueRanges due low high)) 0 (start .0) 0 0)
+    let p = parts due low high start h in
+    rw (p .0, p .1, p .2) (any-start xs (some (dueRanges due low high)) 0 (start .0) 0 0)
 
 -- ---- what the check will answer from a number
 
