@@ -125,7 +125,3 @@ same-above w v b at span h e =
 -- nothing is left above the highest octet
 pub first-octet : (w : ℕ) → w < 2 ^ 32 → w / 0x1000000 % 256 ≡ w / 0x1000000
 first-octet w h = mod-eq-of-lt (let l : w / 0x1000000 < 256 = omega arith in l)
-
--- the two high octets of four
-pub high-two : (a b c d : ℕ) → c < 256 → d < 256 → wordOf a b c d / 0x10000 ≡ a * 256 + b
-high-two a b c d hc hd = omega arith

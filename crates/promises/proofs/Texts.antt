@@ -9,7 +9,7 @@ use lib.Seq.{getD-drop}
 use Rattle.laws.specs.Lists.{nonzero}
 use Rattle.laws.proofs.Bits.{get-above}
 use Rattle.laws.proofs.Pick.{split}
-use Rattle.slots.specs.Slots.{get, putAll, fits, disjoint, reads}
+use Rattle.slots.specs.Slots.{get, putAll, fits, reads}
 use Rattle.slots.proofs.Slots.{get-apart-all, reads-all}
 use Rattle.utf8.proofs.Small.{valid-small}
 use Rattle.text.specs.Octets.{needed, dueFormat}

@@ -18,7 +18,7 @@ use Rattle.records.specs.declared.answers.Edited.{Edited}
 use Rattle.kinds.specs.Fields.{Number, Text, Field, Setting, fieldIn, valueIn, same}
 use Rattle.table.specs.declared.names.NumberName.{NumberName}
 use Rattle.table.specs.declared.names.NumberName.the-variants as N
-use Rattle.kinds.specs.Layout.{Part, layout, none, slotsOf, parts, numbersSet}
+use Rattle.kinds.specs.Layout.{Part, layout, none, slotsOf, numbersSet}
 use Rattle.records.specs.Records.{kindIn, packetsIn, recordOf, valuesOf}
 
 -- the values with one field changed

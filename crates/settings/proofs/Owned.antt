@@ -23,7 +23,7 @@ use Rattle.standard.specs.Heads.{packetsOf}
 use Rattle.standard.specs.Walk.{walkOf}
 use Rattle.standard.specs.Words.{Outcome, outcome, unchanged, missing, answerTo, afterAnswer, setMessage, setWalked, setOn}
 use Rattle.walking.proofs.Stands.{walk-formed}
-use Rattle.settings.specs.declared.target.Target.the-variants as T
+use Rattle.settings.specs.declared.helpers.Target.the-variants as T
 use Rattle.settings.specs.Target.{ownIn, targetOf}
 
 -- two tests say the same

@@ -16,8 +16,8 @@ use Rattle.records.specs.Records.{kindIn, packetsIn}
 use Rattle.standard.specs.Walk.{walkOf}
 use Rattle.kinds.specs.declared.refusal.Refusal.{Refusal}
 use Rattle.standard.specs.Words.{Outcome, unchanged}
-use Rattle.settings.specs.declared.target.Target.{Target}
-use Rattle.settings.specs.declared.target.Target.the-variants as T
+use Rattle.settings.specs.declared.helpers.Target.{Target}
+use Rattle.settings.specs.declared.helpers.Target.the-variants as T
 use Rattle.settings.specs.Target.{ownIn, targetOf, saidTarget, settled}
 
 module _ {t : Target} (act : ℕ → Outcome) (ws : List ℕ) where

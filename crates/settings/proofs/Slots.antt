@@ -15,8 +15,8 @@ use Rattle.text.specs.Octets.{needed}
 use Rattle.kinds.specs.declared.kind.Kind.{Kind}
 use Rattle.kinds.specs.declared.refusal.Refusal.{Refusal}
 use Rattle.kinds.specs.declared.refusal.Refusal.the-variants.{NumberTooLarge}
-use Rattle.kinds.specs.Fields.{Setting, fieldIn, valueIn, textIn, partOf, same, decided}
-use Rattle.kinds.specs.Layout.{Part, Row, Body, fixed, layout, slotsOf, parts, numbersSet}
+use Rattle.kinds.specs.Fields.{Setting, fieldIn, textIn, partOf, same, decided}
+use Rattle.kinds.specs.Layout.{Part, Row, Body, fixed, layout, slotsOf, numbersSet}
 use Rattle.kinds.proofs.Rows.{everyKind}
 use Rattle.records.specs.declared.answers.Answer.the-variants as A
 use Rattle.records.specs.Settings.{tooLarge}
@@ -29,8 +29,8 @@ use Rattle.table.specs.Named.{HomeIs}
 use Rattle.numbers.specs.BySlot.{fitFrom, putFrom}
 use Rattle.fields.proofs.Puts.{ins-put}
 use Rattle.table.specs.declared.names.Home.{Home}
-use Rattle.settings.specs.declared.target.Target.{Target}
-use Rattle.settings.specs.declared.target.Target.the-variants as T
+use Rattle.settings.specs.declared.helpers.Target.{Target}
+use Rattle.settings.specs.declared.helpers.Target.the-variants as T
 use Rattle.settings.specs.Target.{targetOf, settled}
 use Rattle.settings.specs.Fixed.{fitted, placeOn, homeOn, slotOn, slotsOn}
 use Rattle.settings.proofs.Owned.{ownedBy, own-has, Own, set-refused, set-own}

@@ -11,8 +11,8 @@ use Rattle.records.specs.declared.answers.Walked.the-variants as W
 use Rattle.records.specs.Answers.{Said, accepted, refused}
 use Rattle.records.specs.Records.{kindIn, packetsIn}
 use Rattle.standard.specs.Words.{Outcome, unchanged}
-use Rattle.settings.specs.declared.target.Target.{Target}
-use Rattle.settings.specs.declared.target.Target.the-variants as T
+use Rattle.settings.specs.declared.helpers.Target.{Target}
+use Rattle.settings.specs.declared.helpers.Target.the-variants as T
 
 -- a message of another kind is refusal 13
 unfoldable pub ownIn : ℕ → Message → Target

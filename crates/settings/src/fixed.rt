@@ -1,8 +1,8 @@
 // Settings of fixed kinds by slot: one number, or several in slots one after another.
 ghost use mathlib.Core.Path.{_≡_};
 ghost use Rattle.settings.specs.Fixed.{placeOn, slotsOn};
-use crate::target::Target;
-use crate::target::find_target;
+use crate::helpers::Target;
+use crate::helpers::find_target;
 use counts::WordNumber;
 use fields::put_field;
 use fields::too_large;

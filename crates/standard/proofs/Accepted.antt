@@ -11,8 +11,8 @@ use Rattle.slots.specs.Slots.{Slot, fits}
 use Rattle.utf8.specs.Utf8.{Valid, firstBad}
 use Rattle.utf8.proofs.Valid.{good-valid}
 use Rattle.text.specs.Octets.{needed}
-use Rattle.kinds.specs.Fields.{Setting, fieldIn, valueIn, textIn}
-use Rattle.kinds.specs.Layout.{Part, Body, Row, capacityIn, slotsOf, parts, numbersSet}
+use Rattle.kinds.specs.Fields.{Setting, fieldIn, textIn}
+use Rattle.kinds.specs.Layout.{Part, Body, Row, capacityIn, slotsOf, numbersSet}
 use Rattle.records.specs.declared.answers.Answer.the-variants as A
 use Rattle.records.specs.Settings.{tooLarge}
 use Rattle.records.proofs.Records.{refused-done}

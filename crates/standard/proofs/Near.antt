@@ -11,7 +11,6 @@ use Rattle.laws.specs.Pick.{pick, differ}
 use Rattle.laws.specs.First.{first}
 use Rattle.laws.proofs.First.{first-is}
 use Rattle.laws.proofs.Pick.{picked}
-use Rattle.counts.specs.Counts.{packet}
 use Rattle.counts.specs.declared.PacketNumber.{PacketNumber}
 use Rattle.utf8.specs.Utf8.{firstBad}
 use Rattle.kinds.specs.declared.refusal.Refusal.{Refusal}

@@ -10,7 +10,7 @@ use lib.Pow.{pow-pos, pow-mono, shr-lt, mod-mod-pow}
 use Rattle.laws.specs.Bits.{putField, wordOf}
 use Rattle.laws.proofs.Bits.{put-back}
 use Rattle.slots.specs.Slots.{Slot, fits, apartFromAll, wordsBelow, bitsWithin}
-use Rattle.text.specs.Octets.{octetOf, dueFormat}
+use Rattle.text.specs.Octets.{dueFormat}
 use Rattle.text.specs.Written.{wordIn}
 use Rattle.text.proofs.Needed.{due-format-small}
 use Rattle.text.proofs.First.{first-word}

@@ -3,9 +3,7 @@ use Prim.Native.Nat.{ℕ}
 use mathlib.Core.Path.{_≡_}
 use mathlib.Core.List.{List, [], _∷_, _++_}
 use Rattle.counts.specs.Counts.{packet, byte}
-use Rattle.text.specs.Place.{stepped}
 use Rattle.text.specs.declared.TextPlace.{TextPlace}
-use Rattle.text.specs.declared.Stepped.{Stepped}
 use Rattle.kinds.specs.declared.choices.Format.the-variants as F
 use Rattle.records.specs.Answers.{Said, accepted, saidPacket, saidSize}
 use Rattle.records.specs.Told.{refusal}

@@ -2,7 +2,6 @@
 use Prim.Native.Nat.{ℕ}
 use mathlib.Core.Path.{_≡_}
 use mathlib.Core.List.{List, [], _∷_, _++_}
-use lib.ListN.{replicate}
 use Rattle.laws.specs.Lists.{map}
 use Rattle.records.specs.Answers.{Said, accepted, saidRead, walkedCase, saidWalked}
 use Rattle.records.specs.Told.{refusal}

@@ -1,6 +1,6 @@
 -- FRESH MESSAGES, SETTINGS ON WORDS, WRITING A RECORD: the answer, and the whole buffer afterwards.
 use Prim.Native.Nat.{ℕ}
-use mathlib.Core.Bool.{Bool, true, false, not}
+use mathlib.Core.Bool.{Bool, false, not}
 use mathlib.Core.List.{List, [], _∷_}
 use lib.ListN.{length, getD}
 use lib.Dec.{ltb, eqb}
@@ -20,7 +20,7 @@ use Rattle.records.specs.declared.answers.Walked.{Walked}
 use Rattle.records.specs.declared.answers.Walked.the-variants as W
 use Rattle.records.specs.declared.answers.Answer.{Answer}
 use Rattle.records.specs.declared.answers.Answer.the-variants as A
-use Rattle.kinds.specs.Fields.{Field, Setting, fieldIn, valueIn, textIn, start}
+use Rattle.kinds.specs.Fields.{Field, Setting, fieldIn, textIn, start}
 use Rattle.kinds.specs.Layout.{Part, Body, fixed, texts, Row, layout, capacityIn, kindOf, hasText, slotsOf, isText, parts, valuesIn, numbersSet}
 use Rattle.records.specs.Records.{kindIn, packetsIn, valuesOf}
 use Rattle.records.specs.Settings.{lacks, tooLarge}

@@ -1,11 +1,11 @@
 -- The packets of a slice: where a whole packet starts, and the first word that the code finds there.
-use Prim.Native.Nat.{ℕ, _+_, _*_, _/_, _^_, _≤_, _<_}
+use Prim.Native.Nat.{ℕ, _*_, _/_, _^_, _≤_, _<_}
 use mathlib.Core.Path.{_≡_, ap}
 use mathlib.Core.List.{List}
 use native.Mathlib.Omega.{arith}
 use lib.ListN.{length, getD}
 use borrow.Author.Tests.{le-leb, lt-leb}
-use Rattle.counts.specs.Counts.{packet, word, firstWord, wholePackets, wrapped}
+use Rattle.counts.specs.Counts.{firstWord, wrapped}
 use Rattle.counts.specs.declared.PacketNumber.{PacketNumber}
 use Rattle.counts.specs.declared.WordNumber.{WordNumber}
 use Rattle.text.specs.Heads.{headIn}

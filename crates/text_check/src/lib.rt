@@ -7,10 +7,11 @@ ghost use Rattle.text.specs.Bytes.{textOf};
 ghost use Rattle.text_check.specs.FastCheck.{isGood};
 use utf8::Utf8;
 
-pub mod ascii;
+mod ascii;
 mod by_byte;
 mod by_scan;
 mod bytes;
+pub mod helpers;
 mod three_byte_runs;
 mod words;
 

@@ -26,7 +26,7 @@ use Rattle.fields.specs.Puts.{putEach}
 use Rattle.buffer.specs.Acts.{fillText}
 use Rattle.reading.specs.Bodies.{offsetOf}
 use Rattle.reading.proofs.TextRows.{text-capacity}
-use Rattle.settings.specs.declared.target.Target.the-variants as T
+use Rattle.settings.specs.declared.helpers.Target.the-variants as T
 use Rattle.settings.specs.Target.{targetOf}
 use Rattle.settings.proofs.Settled.{settled-refused, settled-own}
 use Rattle.text_settings.specs.declared.texts.Plan.the-variants as P

@@ -16,8 +16,8 @@ use Rattle.text.specs.Octets.{needed}
 use Rattle.text.specs.Written.{eachFirst}
 use Rattle.kinds.specs.declared.kind.Kind.{Kind}
 use Rattle.kinds.specs.declared.refusal.Refusal.the-variants.{TooManyPackets, NotUtf8, NoRoom}
-use Rattle.kinds.specs.Fields.{Text, Field, Setting, fieldIn, valueIn, same, decided}
-use Rattle.kinds.specs.Layout.{Part, Row, Body, fixed, texts, layout, capacityIn, capacityOf, hasText, isText, slotsOf, parts, valuesIn, numbersSet}
+use Rattle.kinds.specs.Fields.{Text, Field, Setting, fieldIn, same, decided}
+use Rattle.kinds.specs.Layout.{Part, Row, Body, fixed, texts, layout, capacityIn, capacityOf, hasText, isText, slotsOf, valuesIn, numbersSet}
 use Rattle.kinds.proofs.Rows.{everyKind}
 use Rattle.records.specs.declared.answers.Answer.{Answer}
 use Rattle.records.specs.declared.answers.Answer.the-variants as A
@@ -32,8 +32,8 @@ use Rattle.buffer.proofs.Turns.{text-filled}
 use Rattle.table.specs.Places.{slotAt}
 use Rattle.reading.specs.Bodies.{offsetOf}
 use Rattle.reading.proofs.TextRows.{text-capacity, offset-few}
-use Rattle.settings.specs.declared.target.Target.{Target}
-use Rattle.settings.specs.declared.target.Target.the-variants as T
+use Rattle.settings.specs.declared.helpers.Target.{Target}
+use Rattle.settings.specs.declared.helpers.Target.the-variants as T
 use Rattle.settings.specs.Target.{targetOf, settled}
 use Rattle.settings.proofs.Owned.{ownedBy, own-has, Own, set-refused, set-own}
 use Rattle.settings.proofs.Slots.{facts, plain, is-own, is-narrow, are-slots, answer-is, one}

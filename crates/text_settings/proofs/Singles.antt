@@ -22,7 +22,7 @@ use Rattle.standard.specs.Walk.{walkOf}
 use Rattle.reading.specs.Bodies.{offsetOf}
 use Rattle.reading.specs.OnePass.{headBits, likeFirst, endsAt, headedPackets, seenText}
 use Rattle.reading.proofs.Passes.{same-type, turn-ends, seen-good}
-use Rattle.settings.specs.declared.target.Target.the-variants as T
+use Rattle.settings.specs.declared.helpers.Target.the-variants as T
 use Rattle.settings.specs.Target.{targetOf}
 use Rattle.text_settings.specs.Texts.{upperOf, SingleHead, singleAscii}
 use Rattle.text_settings.proofs.Targets.{seen-target}

@@ -23,7 +23,7 @@ use Rattle.standard.proofs.Formed.{read-formed}
 use Rattle.standard.proofs.Walks.{formed-walk}
 use Rattle.reading.specs.OnePass.{textPackets}
 use Rattle.reading.proofs.HeadedRead.{text-room, text-read}
-use Rattle.settings.specs.declared.target.Target.the-variants as T
+use Rattle.settings.specs.declared.helpers.Target.the-variants as T
 use Rattle.settings.specs.Target.{ownIn, targetOf}
 
 module _ (k : Kind) (ws : List ℕ) (n : ℕ) (own : statusOf (headAt ws 0) ≡ layout k .status) (e : textPackets k ws ≡ n) (some : 0 < n) where

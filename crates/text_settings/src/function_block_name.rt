@@ -10,7 +10,7 @@ use fields::too_large;
 use kinds::kind::Kind;
 use kinds::refusal::Refusal;
 use records::answers::Answer;
-use settings::target::Target;
+use settings::helpers::Target;
 use table::places::place_of;
 use table::rows::head_of;
 

@@ -8,10 +8,10 @@ use counts::PacketNumber;
 use kinds::kind::Kind;
 use reading::heads::status_of;
 use reading::helpers::text_packets;
-use settings::target::Target;
-use settings::target::find_target;
+use settings::helpers::Target;
+use settings::helpers::find_target;
 use table::rows::row_of;
-use text_check::ascii::ascii_packet;
+use text_check::helpers::ascii_packet;
 
 // Whether the first packet has the type, format and status of this head, and its text is ASCII.
 fn is_single_ascii_packet(words: &[u32], head: u32) -> bool
@@ -23,7 +23,7 @@ fn is_single_ascii_packet(words: &[u32], head: u32) -> bool
     if words[0] / 0x10000 != head / 0x10000 {
         return false;
     }
-    ascii_packet(words, 0, 0)
+    ascii_packet(words, 0, PacketNumber(0))
 }
 
 // The packets of a message of this kind, or why a setting of it is refused. Fast path: one pass over the heads.

@@ -10,7 +10,7 @@ use kinds::kind::Kind;
 use kinds::refusal::Refusal;
 use reading::helpers::offset_of;
 use records::answers::Answer;
-use settings::target::Target;
+use settings::helpers::Target;
 use text::packets::packets_needed;
 use text_check::check_utf8;
 use utf8::Utf8;

@@ -1,6 +1,6 @@
 -- `texts::fill_full_packet` meets its contract, by the laws of `Octets`: its last three words are twelve bytes of the text.
-use Prim.Native.Nat.{_+_, _-_, _*_}
-use mathlib.Core.Path.{_≡_, ap, _∙_}
+use Prim.Native.Nat.{_+_, _-_}
+use mathlib.Core.Path.{ap, _∙_}
 use native.Mathlib.Omega.{arith}
 use native.Mathlib.Nat.{add-zero}
 use Rattle.counts.specs.declared.TextByteNumber.{TextByteNumber}

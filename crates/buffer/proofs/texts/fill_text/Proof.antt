@@ -1,5 +1,5 @@
 -- `texts::fill_text` meets its contract, by the laws of `Turns` and `Written`.
-use Prim.Native.Nat.{ℕ, _-_, _*_}
+use Prim.Native.Nat.{_-_, _*_}
 use mathlib.Core.Path.{refl, sym, ap, _∙_}
 use native.Mathlib.Omega.{arith}
 use borrow.Author.Tests.{lt-ltb, le-ltb, le-leb, lt-leb}
@@ -8,7 +8,7 @@ use Rattle.laws.proofs.Pick.{here, past}
 use Rattle.counts.specs.declared.PacketNumber.{PacketNumber}
 use Rattle.text.specs.Written.{written, wordNew}
 use Rattle.text.proofs.Written.{word-zero}
-use Rattle.buffer.specs.Acts.{clearFrom, formatted, fillText}
+use Rattle.buffer.specs.Acts.{formatted, fillText}
 use Rattle.buffer.proofs.Turns.{word-of, clear-rest}
 use borrow.Author.Needs.{needs}
 use Rattle.buffer.proofs.texts.fill_text.Statement.{statement}

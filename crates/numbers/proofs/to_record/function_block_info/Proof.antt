@@ -1,6 +1,5 @@
 -- `to_record::function_block_info` meets its contract, by the bounds of numbers that fit.
 use native.Mathlib.Omega.{arith}
-use mathlib.Core.Path.{refl}
 use Rattle.kinds.specs.declared.kind.Kind.the-variants as K
 use Rattle.numbers.proofs.Accepted.{computed, Small, small}
 use borrow.Author.Needs.{needs}

@@ -2,7 +2,7 @@
 use mathlib.Core.Path.{refl, sym, ap, _∙_}
 use native.Mathlib.Omega.{arith}
 use Rattle.counts.specs.declared.PacketNumber.{PacketNumber}
-use Rattle.settings.specs.declared.target.Target.the-variants as T
+use Rattle.settings.specs.declared.helpers.Target.the-variants as T
 use Rattle.text_settings.proofs.Targets.{seen-target}
 use borrow.Author.Needs.{needs}
 use Rattle.text_settings.proofs.target.find_text_target.Statement.{statement}

@@ -2,7 +2,6 @@
 use mathlib.Core.Path.{sym, ap, _∙_}
 use borrow.Author.Tests.{eqb-true}
 use Rattle.counts.specs.Counts.{word}
-use Rattle.counts.specs.declared.WordNumber.{WordNumber}
 use Rattle.standard.specs.Walk.{sizeOf}
 use Rattle.walking.proofs.Other.{size-end, size-stream, size-short, size-whole, size-one}
 use borrow.Author.Needs.{needs}

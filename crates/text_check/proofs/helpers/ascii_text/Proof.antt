@@ -1,9 +1,9 @@
--- `ascii::ascii_text` meets its contract: the test of the masked word.
+-- `helpers::ascii_text` meets its contract: the test of the masked word.
 use mathlib.Core.Path.{_∙_}
 use borrow.Author.Needs.{needs}
 use Rattle.text_check.specs.FastCheck.{asciiText}
-use Rattle.text_check.proofs.ascii.ascii_text.Statement.{statement}
-use Rattle.text_check.proofs.ascii.ascii_text.Tie as tie
+use Rattle.text_check.proofs.helpers.ascii_text.Statement.{statement}
+use Rattle.text_check.proofs.helpers.ascii_text.Tie as tie
 
 pub ascii-text-spec : {M : Type 1} → statement M
 unfolding asciiText

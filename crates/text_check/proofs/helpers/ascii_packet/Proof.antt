@@ -1,4 +1,4 @@
--- `ascii::ascii_packet` meets its contract: one test for each word.
+-- `helpers::ascii_packet` meets its contract: one test for each word.
 use Prim.Native.Nat.{_*_, _/_, _<_}
 use mathlib.Core.Path.{_≡_, refl, sym, ap, _∙_}
 use native.Mathlib.Omega.{arith}
@@ -10,21 +10,21 @@ use Rattle.laws.proofs.Pick.{here, past}
 use Rattle.counts.specs.declared.WordNumber.{WordNumber}
 use Rattle.counts.proofs.Wraps.{first-word}
 use Rattle.text_check.specs.FastCheck.{asciiPacket}
-use Rattle.text_check.proofs.ascii.ascii_packet.Statement.{statement}
-use Rattle.text_check.proofs.ascii.ascii_packet.Tie as tie
+use Rattle.text_check.proofs.helpers.ascii_packet.Statement.{statement}
+use Rattle.text_check.proofs.helpers.ascii_packet.Tie as tie
 
 returns : tie.Need-returns
 unfolding asciiPacket
-returns c = here _ (le-leb _ _ (rw (c .before .before .whole-packets .ensures) at (c .if1 .taken))) refl
+returns c = here _ (le-leb _ _ (rw (c .before .before .before .whole-packets .ensures) at (c .if1 .taken))) refl
 
--- the packet is whole, and its first word is p * 4
+-- the packet is whole, and its first word is four times its number
 within : (c : tie.After-first-word) →
-    let start = c .before .before .before .before .before in
-    (start .args .p < length (start .args .words .now) / 4) × (c .first-word .result .0 ≡ start .args .p * 4)
+    let start = c .before .before .before .before .before .before in
+    (start .args .packet .0 < length (start .args .words .now) / 4) × (c .first-word .result .0 ≡ start .args .packet .0 * 4)
 within c =
-    let start = c .before .before .before .before .before in
-    let h = (rw (c .before .before .before .whole-packets .ensures) at (c .before .if1 .left)) in
-    (h, ap (λ (w : WordNumber). w .0) (c .first-word .ensures ∙ first-word (start .args .p) (omega (arith, h, start .good .0 .1))))
+    let start = c .before .before .before .before .before .before in
+    let h = (rw (c .before .before .before .before .whole-packets .ensures) at (c .before .if1 .left)) in
+    (h, ap (λ (w : WordNumber). w .0) (c .first-word .ensures ∙ first-word (start .args .packet .0) (omega (arith, h, start .good .0 .1))))
 
 returns-2 : tie.Need-returns-2
 unfolding asciiPacket both
@@ -58,10 +58,10 @@ pub ascii-packet-spec : {M : Type 1} → statement M
 ascii-packet-spec =
     tie.close (tie.spec (λ c κs. search needs) returns (λ c κs. search needs)
     (λ c κs. let w = within c in omega (arith, w .0, w .1))
-    (λ c. let w = within (c .before .before) in omega (arith, w .0, w .1, c .before .before .before .before .before .before .before .good .0 .1))
+    (λ c. let w = within (c .before .before) in omega (arith, w .0, w .1, c .before .before .before .before .before .before .before .before .good .0 .1))
     (λ c κs. let w = within (c .before .before) in omega (arith, w .0, w .1))
-    (λ c. let w = within (c .before .before .before .before) in omega (arith, w .0, w .1, c .before .before .before .before .before .before .before .before .before .good .0 .1))
+    (λ c. let w = within (c .before .before .before .before) in omega (arith, w .0, w .1, c .before .before .before .before .before .before .before .before .before .before .good .0 .1))
     (λ c κs. let w = within (c .before .before .before .before) in omega (arith, w .0, w .1))
-    (λ c. let w = within (c .before .before .before .before .before .before) in omega (arith, w .0, w .1, c .before .before .before .before .before .before .before .before .before .before .before .good .0 .1))
+    (λ c. let w = within (c .before .before .before .before .before .before) in omega (arith, w .0, w .1, c .before .before .before .before .before .before .before .before .before .before .before .before .good .0 .1))
     (λ c κs. let w = within (c .before .before .before .before .before .before) in omega (arith, w .0, w .1))
     returns-2 returns-3 returns-4 returns-5)

@@ -1,4 +1,4 @@
-// What a setting finds at word position 0: a message of its kind, or why it is refused.
+// Helpers of settings, here and in text_settings, not for callers of the library: what a setting finds at word position 0, a message of its kind or why it is refused.
 ghost use mathlib.Core.Path.{_≡_};
 ghost use Rattle.standard.specs.Walk.{walkOf};
 ghost use Rattle.settings.specs.Target.{ownIn, targetOf};

@@ -1,12 +1,12 @@
--- `target::own_message` meets its contract, by the laws of `Pick` of laws.
+-- `helpers::own_message` meets its contract, by the laws of `Pick` of laws.
 use mathlib.Core.Path.{refl, sym, ap, _∙_}
 use Rattle.laws.proofs.Pick.{here, past, eq-differ, ne-differ}
 use Rattle.kinds.specs.declared.kind.Kind.{Kind}
 use Rattle.kinds.specs.Layout.{layout}
 use Rattle.settings.specs.Target.{ownIn}
 use borrow.Author.Needs.{needs}
-use Rattle.settings.proofs.target.own_message.Statement.{statement}
-use Rattle.settings.proofs.target.own_message.Tie as tie
+use Rattle.settings.proofs.helpers.own_message.Statement.{statement}
+use Rattle.settings.proofs.helpers.own_message.Tie as tie
 
 pub own-message-spec : {M : Type 1} → statement M
 unfolding ownIn

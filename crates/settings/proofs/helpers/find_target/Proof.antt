@@ -1,7 +1,7 @@
--- `target::find_target` meets its contract, by each answer of the walk.
+-- `helpers::find_target` meets its contract, by each answer of the walk.
 use borrow.Author.Needs.{needs}
-use Rattle.settings.proofs.target.find_target.Statement.{statement}
-use Rattle.settings.proofs.target.find_target.Tie as tie
+use Rattle.settings.proofs.helpers.find_target.Statement.{statement}
+use Rattle.settings.proofs.helpers.find_target.Tie as tie
 
 returns : tie.Need-returns
 returns c = rw (← c .before .before .walk .ensures, c .enum-told .given .1)
