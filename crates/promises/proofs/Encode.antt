@@ -79,7 +79,7 @@ module _ (k : Kind) (ws : List ℕ) (l : 4 ≤ length ws) where
 
     -- and the walk finds it, and goes on after it
     front : take (packetsNeeded k v * 4) (encode k ws v) ≡ part (encode k ws v) 0 (packetsIn (recordFor k v))
-    front = let z : 0 + packetsIn (recordFor k v) * 4 - 0 ≡ packetsNeeded k v * 4 = omega (arith, packets) in rw z
+    front = rw packets
 
     pub encode-walk : walkOf (encode k ws v) 0 ≡ W.Message (recordFor k v) (word (packetsNeeded k v * 4))
     encode-walk =

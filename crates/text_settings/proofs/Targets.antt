@@ -53,7 +53,7 @@ module _ (k : Kind) (ws : List ℕ) (n : ℕ) (own : statusOf (headAt ws 0) ≡ 
   its-kind = record-kind k (packetsOf front) (valuesAt k front)
 
   own-part : front ≡ part ws 0 (packetsIn message)
-  own-part = rw (packets, zero-add, sub-zero)
+  own-part = rw packets
 
   pub seen-target : T.Packets (packet n) ≡ targetOf (layout k .status) (walkOf ws 0)
   unfolding ownIn

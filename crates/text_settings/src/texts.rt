@@ -12,6 +12,7 @@ use reading::helpers::offset_of;
 use records::answers::Answer;
 use settings::helpers::Target;
 use text::packets::packets_needed;
+use text::packets::packets_of;
 use text_check::check_utf8;
 use utf8::Utf8;
 
@@ -22,10 +23,10 @@ pub(crate) enum Plan {
 }
 
 // Refusals 3 and 14, or the packets needed for this many bytes.
-fn find_room(bytes: usize, capacity: usize, room: PacketNumber) -> Plan
-    ensures { λ r. ⌜ r ≡ roomOf (needed capacity bytes) (room .0) ⌝ }
+fn find_room(bytes: TextByteNumber, capacity: usize, room: PacketNumber) -> Plan
+    ensures { λ r. ⌜ r ≡ roomOf (needed capacity (bytes .0)) (room .0) ⌝ }
 {
-    let needed = packets_needed(TextByteNumber(bytes), capacity);
+    let needed = packets_needed(bytes, capacity);
     let n = needed.0;
     if 64 < n {
         return Plan::Refused(Refusal::TooManyPackets);
@@ -42,7 +43,7 @@ fn plan_text(text: &[u8], capacity: usize, room: PacketNumber) -> Plan
 {
     match check_utf8(text) {
         Utf8::BadAt(_) => Plan::Refused(Refusal::NotUtf8),
-        Utf8::Good => find_room(text.len(), capacity, room),
+        Utf8::Good => find_room(TextByteNumber(text.len()), capacity, room),
     }
 }
 
@@ -56,7 +57,7 @@ pub(crate) fn set_text(words: &mut [u32], kind: Kind, head: u32, text: &[u8]) ->
     match find_target_fast(words, kind, head) {
         Target::Refused(refusal) => Answer::Refused(refusal),
         Target::Packets(_) => {
-            let room = PacketNumber(words.len() / 4);
+            let room = packets_of(words);
             match plan_text(text, 14 - offset, room) {
                 Plan::Refused(refusal) => Answer::Refused(refusal),
                 Plan::Needs(packets) => {

@@ -4,6 +4,7 @@ use mathlib.Core.Path.{_≡_, refl, sym, ap, _∙_}
 use mathlib.Core.Bool.{Bool, true, false}
 use mathlib.Core.List.{List}
 use native.Mathlib.Omega.{arith}
+use native.Mathlib.Nat.{add-sub-cancel-left}
 use lib.ListN.{length, getD, take, drop}
 use lib.Dec.{ltb, leb}
 use Rattle.laws.specs.Pick.{pick, differ}
@@ -74,7 +75,7 @@ module _ (ws : List ℕ) (pos : ℕ) (a : Walked) (m : Message) (next : WordNumb
   message-within = (omega (arith, after), omega (arith, after, stands .room))
 
   pub message-words : part ws pos (packetsIn m) ≡ take (next .0 - pos) (drop pos ws)
-  message-words = rw after
+  message-words = rw (after, add-sub-cancel-left pos (packetsIn m * 4))
 
   pub message-packets : length (take (next .0 - pos) (drop pos ws)) / 4 ≡ packetsIn m
-  message-packets = let l = part-length ws pos (packetsIn m) (stands .room) in rw after (omega arith)
+  message-packets = let l = part-length ws pos (packetsIn m) (stands .room) in rw (after, add-sub-cancel-left pos (packetsIn m * 4)) (omega arith)

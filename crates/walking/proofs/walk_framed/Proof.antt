@@ -1,5 +1,6 @@
 -- A framed message: its packets lie within the words, so they can be lent to reading, and framing has looked at their heads.
 use native.Mathlib.Omega.{arith}
+use native.Mathlib.Nat.{add-sub-cancel-left}
 use Rattle.standard.specs.Walk.{framedOf}
 use Rattle.standard.proofs.Next.{whole-room}
 use Rattle.walking.proofs.FramedRead.{framed-words, framed-read}
@@ -28,7 +29,7 @@ returns-3 : tie.Need-returns-3
 unfolding framedOf
 returns-3 c =
     let is = c .before .before .before .before .before .before .f2 .given .1 in
-    rw (← c .before .before .before .before .before .before .before .before .frame .ensures, is, ← framed-read _ _ (c .before .before .before .before .before .before .before .before .frame .ensures) is, ← framed-words _ _ (c .before .before .before .before .before .before .before .before .frame .ensures) is (c .before .before .before .before .first-word .ensures) (omega arith), ← c .before .read-framed .ensures) (c .walk-read .ensures)
+    rw (← c .before .before .before .before .before .before .before .before .frame .ensures, is, ← framed-read _ _ (c .before .before .before .before .before .before .before .before .frame .ensures) is, ← framed-words _ _ (c .before .before .before .before .before .before .before .before .frame .ensures) is (c .before .before .before .before .first-word .ensures) (omega arith), ← (rw (add-sub-cancel-left) at (c .before .read-framed .ensures))) (c .walk-read .ensures)
 
 pub walk-framed-spec : {M : Type 1} → statement M
 walk-framed-spec =

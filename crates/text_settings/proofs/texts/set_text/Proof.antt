@@ -10,7 +10,7 @@ use Rattle.text_settings.proofs.texts.set_text.Tie as tie
 
 sub-plan-text : tie.Need-sub-plan-text
 sub-plan-text c =
-    let row = c .before .before .before .before in
+    let row = c .before .before .before .before .before .before in
     let s = offset-few (row .before .before .before .args .kind) in
     omega (arith, s, row .offset-of .ensures)
 
@@ -21,24 +21,26 @@ returns c =
 
 returns-2 : tie.Need-returns-2
 returns-2 c =
-    let told = c .before .before .before .before in
+    let told = c .before .before .before .before .before .before in
+    let plan = (rw (c .before .before .before .before .packets-of .ensures) at (c .before .before .before .plan-text .ensures)) in
     let target = told .before .before in
     let row = target .before .before in
     let start = row .before .before .before in
-    said (text-planless (start .args .kind) _ _ _ (start .pre) (row .offset-of .ensures) (sym (target .find-target-fast .ensures) ∙ told .enum-told .given .1) (sym (c .before .before .before .plan-text .ensures) ∙ c .before .refusal2 .given .1))
+    said (text-planless (start .args .kind) _ _ _ (start .pre) (row .offset-of .ensures) (sym (target .find-target-fast .ensures) ∙ told .enum-told .given .1) (sym plan ∙ c .before .refusal2 .given .1))
 
 returns-3 : tie.Need-returns-3
 returns-3 c =
-    let plan = c .before .before .before .before .before .before .before in
-    let told = plan .before in
+    let planned = c .before .before .before .before .before .before .before in
+    let plan = (rw (planned .before .packets-of .ensures) at (planned .plan-text .ensures)) in
+    let told = planned .before .before .before in
     let target = told .before .before in
     let row = target .before .before in
     let start = row .before .before .before in
-    rw (c .before .before .fill-text .ensures) (said (text-done (start .args .kind) _ _ _ (start .pre) (row .offset-of .ensures) (sym (target .find-target-fast .ensures) ∙ told .enum-told .given .1) (sym (plan .plan-text .ensures) ∙ c .before .before .before .before .before .packets .given .1)))
+    rw (c .before .before .fill-text .ensures) (said (text-done (start .args .kind) _ _ _ (start .pre) (row .offset-of .ensures) (sym (target .find-target-fast .ensures) ∙ told .enum-told .given .1) (sym plan ∙ c .before .before .before .before .before .packets .given .1)))
 
 pub set-text-spec : {M : Type 1} → statement M
 set-text-spec =
     tie.close (tie.spec (λ c κs. search needs) (λ c κs. search needs) (λ c. search needs)
-    (λ c. search needs) sub-plan-text (λ c κs. search needs) (λ c. search needs)
+    (λ c. search needs) (λ c κs. search needs) sub-plan-text (λ c κs. search needs) (λ c. search needs)
     (λ c. search needs) (λ c κs. search needs) (λ c. search needs) returns (λ c. search needs)
     returns-2 (λ c. search needs) returns-3)
