@@ -201,5 +201,4 @@ pub record AsInTheRust : Type 0 where
 
 pub as-in-the-rust : AsInTheRust
 unfolding map mask
-as-in-the-rust =
-    record { endpoint-discovery = refl; endpoint-info = refl; device-identity = refl; function-block-info = refl; function-block-name = refl }
+as-in-the-rust = search

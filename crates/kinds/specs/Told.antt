@@ -148,6 +148,8 @@ pub record ToldTable : Type 0 where
   -- block info starts with direction 3, all else 0; the two names have no field but their text
   pub starts : map (λ k. putIn k [] (bare k)) kinds ≡ (0xF0000000 ∷ 0 ∷ 0 ∷ 0 ∷ []) ∷ (0xF0010000 ∷ 0 ∷ 0 ∷ 0 ∷ []) ∷ (0xF0020000 ∷ 0 ∷ 0 ∷ 0 ∷ []) ∷ (0xF0030000 ∷ 0 ∷ 0 ∷ 0 ∷ []) ∷ (0xF0040000 ∷ 0 ∷ 0 ∷ 0 ∷ []) ∷ (0xF0110003 ∷ 0 ∷ 0 ∷ 0 ∷ []) ∷ (0xF0120000 ∷ 0 ∷ 0 ∷ 0 ∷ []) ∷ []
   pub names-alone : (putIn K.EndpointName [] ones ≡ ones) × (putIn K.ProductInstanceId [] ones ≡ ones)
+
+pub record ToldLargest : Type 0 where
   -- 12: largest 255 for 8 bits, 127 for 7, 15 for the group, 16,383 for 14
   pub discovery-major : Largest K.EndpointDiscovery (Setting.number Number.discovery-version-major) 255 256
   pub discovery-minor : Largest K.EndpointDiscovery (Setting.number Number.discovery-version-minor) 255 256
@@ -167,6 +169,8 @@ pub record ToldTable : Type 0 where
   -- each of the manufacturer's three and the version's four numbers alone
   pub manufacturer-each : Largest K.DeviceIdentity (λ n. Setting.device-manufacturer n 0 0) 127 128 × Largest K.DeviceIdentity (λ n. Setting.device-manufacturer 0 n 0) 127 128 × Largest K.DeviceIdentity (λ n. Setting.device-manufacturer 0 0 n) 127 128
   pub version-each : Largest K.DeviceIdentity (λ n. Setting.software-version n 0 0 0) 127 128 × Largest K.DeviceIdentity (λ n. Setting.software-version 0 n 0 0) 127 128 × Largest K.DeviceIdentity (λ n. Setting.software-version 0 0 n 0) 127 128 × Largest K.DeviceIdentity (λ n. Setting.software-version 0 0 0 n) 127 128
+
+pub record ToldChoices : Type 0 where
   -- hint: 0 undeclared, 1 receiver, 2 sender, 3 both
   pub hint : Codes hintCode hintOf (H.Undeclared ∷ H.Receiver ∷ H.Sender ∷ H.SenderReceiver ∷ []) (0 ∷ 1 ∷ 2 ∷ 3 ∷ [])
   -- port: 0 none, 1 unrestricted, 2 restricted; 3 is refused
@@ -177,6 +181,8 @@ pub record ToldTable : Type 0 where
   pub no-direction : noDirection ≡ 0
   -- format: 0 Complete, 1 Start, 2 Continue, 3 End
   pub format : Codes formatCode formatFrom (F.Complete ∷ F.Start ∷ F.Continue ∷ F.End ∷ []) (0 ∷ 1 ∷ 2 ∷ 3 ∷ [])
+
+pub record ToldTextKinds : Type 0 where
   -- text: 14 bytes a packet for the two names, 13 for a block name
   pub capacities : map capacityOf (K.EndpointName ∷ K.ProductInstanceId ∷ K.FunctionBlockName ∷ []) ≡ 14 ∷ 14 ∷ 13 ∷ []
   -- a fixed kind is one packet, a text at most 64

@@ -1,5 +1,4 @@
 -- The examples, computed.
-use mathlib.Core.Path.{refl}
 use Rattle.laws.specs.Pick.{both}
 use Rattle.laws.specs.Lists.{map, each}
 use Rattle.slots.specs.Slots.{get, those, fits}
@@ -11,10 +10,4 @@ use Rattle.numbers.specs.Told.{ToldNumbers}
 
 pub told-numbers : ToldNumbers
 unfolding both map each get those fits decided same start partOf joined layout among held valuesIn recordOf fieldsIn lookup firstPart spread fromKind
-told-numbers =
-    record {
-      block-numbers = refl;
-      block-back = refl;
-      identity-numbers = refl;
-      identity-back = refl;
-    }
+told-numbers = search

@@ -1,4 +1,4 @@
--- The examples of records and of settings on them hold. Proved by computation.
+-- The examples of records and of settings on them hold. Proved by computation: by one search each, or a field at a time where the search would take too many steps.
 use mathlib.Core.Path.{refl}
 use Rattle.laws.specs.Pick.{both}
 use Rattle.laws.specs.Lists.{each}
@@ -7,26 +7,11 @@ use Rattle.kinds.specs.Fields.{decided, same, start, partOf}
 use Rattle.kinds.specs.Layout.{layout}
 use Rattle.records.specs.Records.{recordOf, fieldsIn, lookup, firstPart}
 use Rattle.records.specs.Settings.{setRecord, followed}
-use Rattle.records.specs.Told.{ToldRecords, ToldSettings, ToldLimits, ToldNames}
+use Rattle.records.specs.Told.{ToldRecords, ToldSettings, ToldChains, ToldLimits, ToldLargest, ToldNames}
 
 pub told-records : ToldRecords
 unfolding both each those fits decided same start partOf layout recordOf fieldsIn lookup firstPart setRecord followed
-told-records =
-    record {
-      discovery-says = refl;
-      info-says = refl;
-      identity-says = refl;
-      endpoint-name = refl;
-      product-instance-id = refl;
-      block-says = refl;
-      block-name = refl;
-      first-choices = refl;
-      second-choices = refl;
-      third-choice = refl;
-      discovery-version = (refl, refl);
-      info-version = (refl, refl);
-      names = (refl, refl);
-    }
+told-records = search
 
 pub told-settings : ToldSettings
 unfolding both each those fits decided same start partOf layout recordOf fieldsIn lookup firstPart setRecord followed
@@ -44,10 +29,11 @@ told-settings =
       product-instance-id = (refl, refl);
       function-block-name = (refl, refl);
       thirteen-twelve = (refl, refl);
-      goes-on = (refl, refl);
-      first-kept = (refl, refl);
-      refused-last = (refl, refl);
     }
+
+pub told-chains : ToldChains
+unfolding both each those fits decided same start partOf layout recordOf fieldsIn lookup firstPart setRecord followed
+told-chains = search
 
 pub told-limits : ToldLimits
 unfolding both each those fits decided same start partOf layout recordOf fieldsIn lookup firstPart setRecord followed
@@ -73,28 +59,12 @@ told-limits =
       ci-version = (refl, refl);
       ci-streams = (refl, refl);
       block-name = (refl, refl);
-      discovery-largest = (refl, refl);
-      info-largest = (refl, refl);
-      identity-largest = (refl, refl);
-      numbers-largest = (refl, refl);
-      ci-largest = (refl, refl);
-      name-largest = (refl, refl);
     }
+
+pub told-largest : ToldLargest
+unfolding both each those fits decided same start partOf layout recordOf fieldsIn lookup firstPart setRecord followed
+told-largest = search
 
 pub told-names : ToldNames
 unfolding both each those fits decided same start partOf layout recordOf fieldsIn lookup firstPart setRecord followed
-told-names =
-    record {
-      discovery-major = refl;
-      discovery-minor = refl;
-      info-major = refl;
-      info-minor = refl;
-      own-major = refl;
-      own-minor = refl;
-      number-of-blocks = refl;
-      block-number = refl;
-      first-group = refl;
-      spanned = refl;
-      ci-version = refl;
-      ci-streams = refl;
-    }
+told-names = search

@@ -201,6 +201,8 @@ pub record ToldSettings : Type 0 where
   pub function-block-name : Keeps (Setting.text Text.function-block-name (0xFF ∷ [])) (M.FunctionBlockName 5 (packet 1)) 13
   -- 13 before 12
   pub thirteen-twelve : Keeps (group 16) info 13
+
+pub record ToldChains : Type 0 where
   -- a chain keeps its first refusal, and goes on with the record handed back
   pub goes-on : Chains (blocks 128 ∷ group 1 ∷ blocks 6 ∷ []) info (refusal 12 0) (infoOf 3 4 true true false true false 6)
   pub first-kept : Chains (group 1 ∷ blocks 128 ∷ []) info (refusal 13 0) info
@@ -228,7 +230,9 @@ pub record ToldLimits : Type 0 where
   pub ci-version : Keeps (Setting.number Number.midi-ci-version 256) blockInfo 12
   pub ci-streams : Keeps (Setting.number Number.max-number-of-midi-ci-streams 256) blockInfo 12
   pub block-name : Keeps (block 256) (M.FunctionBlockName 5 (packet 1)) 12
-  -- and the largest of each is accepted
+
+pub record ToldLargest : Type 0 where
+  -- the largest of each is accepted
   pub discovery-largest : Chains (Setting.number Number.discovery-version-major 255 ∷ Setting.number Number.discovery-version-minor 255 ∷ []) discovery (accepted []) (discoveryOf 255 255 true false true false true)
   pub info-largest : Chains (Setting.number Number.info-version-major 255 ∷ Setting.number Number.info-version-minor 255 ∷ blocks 127 ∷ []) info (accepted []) (infoOf 255 255 true true false true false 127)
   pub identity-largest : Chains (Setting.device-manufacturer 127 127 127 ∷ Setting.pair Pair.device-family 16383 ∷ Setting.pair Pair.device-family-model-number 16383 ∷ Setting.software-version 127 127 127 127 ∷ []) identity (accepted []) (identityOf 127 127 127 16383 16383 127 127 127 127)

@@ -118,3 +118,10 @@ pub record ToldOrder : Type 0 where
   pub seven-nine : Reads (heads (0xF4110000 ∷ [])) (refusal 7 0)
   pub eight-eleven : Reads (heads (0xF41205FF ∷ 0xFC120600 ∷ [])) (refusal 8 1)
   pub nine-ten : Reads (heads (0xF01180FC ∷ [])) (refusal 9 0)
+
+-- the examples of reading, a part for each of its rules
+pub record ToldReading : Type 0 where
+  pub kinds : ToldKinds
+  pub text : ToldText
+  pub refusals : ToldRefusals
+  pub order : ToldOrder

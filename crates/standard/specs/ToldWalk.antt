@@ -127,3 +127,9 @@ pub record ToldFraming : Type 0 where
   pub six-seven : Walks (heads (0xF4030000 ∷ 0xF4040000 ∷ [])) 0 (refusedTo 4 6 1)
   -- but the first packet that breaks one counts, whichever it is
   pub seven-first : Walks (heads (0xF4030000 ∷ 0xF0030000 ∷ 0x10040000 ∷ [])) 0 (refusedTo 4 7 1)
+
+-- the examples of the walk
+pub record ToldWalk : Type 0 where
+  pub sizes : ToldSizes
+  pub messages : ToldMessages
+  pub framing : ToldFraming

@@ -104,6 +104,8 @@ pub record ToldFields : Type 0 where
   pub version : LeavesSet (Setting.software-version 8 9 10 11) identityOnes (0xF002FFFF ∷ 0xFFFFFFFF ∷ 0xFFFFFFFF ∷ 0x88898A8B ∷ [])
   -- of words after the message none changes
   pub words-after : LeavesSet (Setting.direction D.Output) (heads (0xF0110003 ∷ 0xF0110003 ∷ []) ++ old 2) (heads (0xF0110002 ∷ 0xF0110003 ∷ []) ++ old 2)
+
+pub record ToldTexts : Type 0 where
   -- the block number: each packet of the message, and none after
   pub block-number : LeavesSet (block 6) (heads (0xF4120541 ∷ 0xF8120542 ∷ 0xFC120543 ∷ 0xF0120544 ∷ [])) (heads (0xF4120641 ∷ 0xF8120642 ∷ 0xFC120643 ∷ 0xF0120544 ∷ []))
   -- text: type, status, format and number in each needed packet, zeros in every whole packet after them, the tail kept
@@ -128,6 +130,8 @@ pub record ToldLimits : Type 0 where
   pub manufacturer : KeepsSet (Setting.device-manufacturer 1 2 128) (heads (0xF0020000 ∷ [])) 12 0
   pub version : KeepsSet (Setting.software-version 128 0 0 0) (heads (0xF0020000 ∷ [])) 12 0
   pub block-name : KeepsSet (block 256) (heads (0xF0120000 ∷ [])) 12 0
+
+pub record ToldRoom : Type 0 where
   -- 3: text that needs more than 64 packets: above 896 bytes at offset 0, above 832 at offset 1
   pub offset-0 : KeepsSet (name (letters 897)) (heads (0xF0030000 ∷ [])) 3 0
   pub offset-1 : KeepsSet (blockName (letters 833)) (heads (0xF0120000 ∷ [])) 3 0
@@ -216,3 +220,14 @@ pub record ToldWriting : Type 0 where
   pub thirteen-twelve : KeepsWritten (blockNameOf 256) (old 4) 13
   pub thirteen-fourteen : KeepsWritten (M.EndpointName (packet 1)) (old 3) 13
   pub twelve-fourteen : KeepsWritten (infoWith 128) (old 3) 12
+
+-- the examples of calls that change words
+pub record ToldWords : Type 0 where
+  pub fresh : ToldFresh
+  pub fields : ToldFields
+  pub texts : ToldTexts
+  pub limits : ToldLimits
+  pub room : ToldRoom
+  pub settings : ToldSettings
+  pub lists : ToldLists
+  pub writing : ToldWriting

@@ -1,12 +1,12 @@
 -- The fast check: the scan between words as one number, the looks that replace it for common text, and the masks that select the text of a packet's words.
-use Prim.Native.Nat.{ℕ, _+_, _-_, _*_, _/_, _%_, _^_, _≤_}
+use Prim.Native.Nat.{ℕ, _+_, _-_, _*_, _/_, _%_, _^_, _≤_, _<_}
 use mathlib.Core.Path.{_≡_}
 use mathlib.Core.Bool.{Bool, true, false, not, _&&_}
 use mathlib.Core.List.{List}
 use lib.Bits.{bitAnd}
 use lib.Dec.{eqb, ltb, leb}
 use lib.ListN.{getD, drop, length}
-use Rattle.laws.specs.Pick.{pick, both}
+use Rattle.laws.specs.Pick.{pick}
 use Rattle.counts.specs.Counts.{byte}
 use Rattle.utf8.specs.Utf8.{firstBad}
 use Rattle.utf8.specs.Scan.{afterByte}
@@ -130,21 +130,26 @@ maskBits n = pick (ltb n 4) (n * 8) 32
 unfoldable pub textMask : ℕ → ℕ → ℕ
 textMask end offset = 2 ^ maskBits (end - offset) - 1
 
--- the text octets of a word are all ASCII or zero
-unfoldable pub asciiText : List ℕ → ℕ → ℕ → ℕ → Bool
-asciiText ws offset at end = asciiWord (bitAnd (getD ws at 0) (textMask end offset))
+-- the text octets of a word, and zeros for the others
+abbrev pub textWord : List ℕ → ℕ → ℕ → ℕ → ℕ
+textWord ws offset at end = bitAnd (getD ws at 0) (textMask end offset)
 
--- the same for the four words of packet p
+-- the text octets of packet p are all ASCII or zero
 abbrev pub asciiTexts : List ℕ → ℕ → ℕ → Bool
 asciiTexts ws offset p =
-    both (asciiText ws offset (p * 4) 2)
-    (both (asciiText ws offset (p * 4 + 1) 6)
-    (both (asciiText ws offset (p * 4 + 2) 10)
-    (asciiText ws offset (p * 4 + 3) 14)))
+    asciiWords (textWord ws offset (p * 4) 2)
+    (textWord ws offset (p * 4 + 1) 6)
+    (textWord ws offset (p * 4 + 2) 10)
+    (textWord ws offset (p * 4 + 3) 14)
 
 -- packet p exists and its text octets are all ASCII or zero
 unfoldable pub asciiPacket : List ℕ → ℕ → ℕ → Bool
 asciiPacket ws offset p = pick (leb (length ws / 4) p) false (asciiTexts ws offset p)
+
+-- so have the first n packets
+pub record AsciiStart (ws : List ℕ) (offset n : ℕ) : Type 0 where
+  pub in-bounds : n ≤ length ws / 4
+  pub ascii : (p : ℕ) → p < n → asciiPacket ws offset p ≡ true
 
 -- ---- a text as it is given
 

@@ -1,20 +1,10 @@
 // A helper of settings of text, not for callers of the library: a look at one packet.
 ghost use mathlib.Core.Path.{_≡_};
-ghost use Prim.Native.Nat.{_<_};
-ghost use lib.ListN.{length};
-ghost use Rattle.text_check.specs.FastCheck.{asciiText, asciiPacket};
-use crate::ascii::ascii_word;
+ghost use Rattle.text_check.specs.FastCheck.{asciiPacket};
+use crate::ascii::ascii_words;
 use crate::words::text_mask;
 use counts::PacketNumber;
 use counts::WordNumber;
-
-// Whether the text octets of word `at` are all ASCII or zero.
-fn ascii_text(words: &[u32], offset: usize, at: usize, end: usize) -> bool
-    requires { ⌜ at < length (now words) ⌝ }
-    ensures { λ r. ⌜ r ≡ asciiText (now (words .entry)) offset at «end» ⌝ }
-{
-    ascii_word(words[at] & text_mask(end, offset))
-}
 
 // Whether a packet exists and its text is all ASCII or zero.
 pub fn ascii_packet(words: &[u32], offset: usize, packet: PacketNumber) -> bool
@@ -26,12 +16,10 @@ pub fn ascii_packet(words: &[u32], offset: usize, packet: PacketNumber) -> bool
     }
     let first = counts::first_word(packet);
     let k = first.0;
-    if ascii_text(words, offset, k, 2) {
-        if ascii_text(words, offset, k + 1, 6) {
-            if ascii_text(words, offset, k + 2, 10) {
-                return ascii_text(words, offset, k + 3, 14);
-            }
-        }
-    }
-    false
+    ascii_words(
+        words[k] & text_mask(2, offset),
+        words[k + 1] & text_mask(6, offset),
+        words[k + 2] & text_mask(10, offset),
+        words[k + 3] & text_mask(14, offset),
+    )
 }

@@ -4,11 +4,12 @@ ghost use Prim.Native.Nat.{_-_, _/_};
 ghost use lib.ListN.{length};
 ghost use Rattle.utf8.specs.Utf8.{firstBad};
 ghost use Rattle.text.specs.Bytes.{textOf};
-ghost use Rattle.text_check.specs.FastCheck.{isGood, afterWord, textMask};
+ghost use Rattle.text_check.specs.FastCheck.{isGood, afterWord, textMask, AsciiStart};
 use crate::ascii::ascii_word;
 use crate::ascii::ascii_words;
 use crate::by_scan::BAD;
 use crate::by_scan::after_word_by_scan;
+use crate::helpers::ascii_packet;
 use crate::three_byte_runs::run_of_four;
 use crate::three_byte_runs::run_of_one;
 use crate::three_byte_runs::run_of_twelve;
@@ -86,6 +87,23 @@ pub(crate) fn text_mask(end: usize, offset: usize) -> u32
     }
 }
 
+// Fast path: the number of packets at the start whose text is all ASCII. They leave no character open.
+fn leading_ascii_packets(words: &[u32], offset: usize) -> PacketNumber
+    ensures { λ r. ⌜ AsciiStart (now (words .entry)) offset (r .0) ⌝ }
+{
+    let packets = counts::whole_packets(WordNumber(words.len()));
+    let n = packets.0;
+    let mut p = 0;
+    while p < n {
+        if ascii_packet(words, offset, PacketNumber(p)) {
+            p += 1;
+        } else {
+            return PacketNumber(p);
+        }
+    }
+    PacketNumber(p)
+}
+
 // Whether the text of the whole packets is UTF-8.
 pub(crate) fn is_good(words: &[u32], offset: usize) -> bool
     ensures { λ r. ⌜ r ≡ isGood (firstBad (textOf (now (words .entry)) (14 - offset) (length (now (words .entry)) / 4))) ⌝ }
@@ -97,8 +115,9 @@ pub(crate) fn is_good(words: &[u32], offset: usize) -> bool
     let m1 = text_mask(6, offset);
     let m2 = text_mask(10, offset);
     let m3 = text_mask(14, offset);
+    let plain = leading_ascii_packets(words, offset);
     let mut s: u64 = 0;
-    let mut p = 0;
+    let mut p = plain.0;
     while p < n {
         let first = counts::first_word(PacketNumber(p));
         let k = first.0;

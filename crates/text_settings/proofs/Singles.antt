@@ -12,7 +12,7 @@ use Rattle.laws.specs.Pick.{pick, differ}
 use Rattle.laws.proofs.Pick.{true-false, passed, differ-false}
 use Rattle.counts.specs.Counts.{packet}
 use Rattle.text.specs.Octets.{dueFormat}
-use Rattle.text_check.specs.FastCheck.{isGood, asciiText, asciiPacket}
+use Rattle.text_check.specs.FastCheck.{isGood, asciiPacket}
 use Rattle.text_check.proofs.AsciiPackets.{ascii-good, ascii-later}
 use Rattle.kinds.specs.declared.kind.Kind.{Kind}
 use Rattle.kinds.specs.Layout.{layout}
@@ -49,7 +49,7 @@ module _ (ws : List ℕ) (offset : ℕ) (long : 4 ≤ length ws) where
   one-headed t f = same-type ws offset 1 t (sym (turn-ends ws offset 0 (lit≤ tt) like-itself (rw f refl) ∙ rw f refl))
 
   front-plain : asciiPacket ws offset 0 ≡ true → asciiPacket (take 4 ws) offset 0 ≡ true
-  unfolding asciiPacket asciiText
+  unfolding asciiPacket
   front-plain e =
       let l = length-take-le 4 ws long in
       let a : leb (packetsOf ws) 0 ≡ false = lt-leb (packetsOf ws) 0 (omega arith) in

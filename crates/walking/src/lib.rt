@@ -90,8 +90,9 @@ fn walk_other(ump_type: u32, words: &[u32], pos: usize) -> Walked
     requires { ⌜ pos < length (now words) ⌝ }
     ensures { λ r. ⌜ r ≡ otherOf «ump_type» (now (words .entry)) pos ⌝ }
 {
-    let size = size_of(ump_type);
-    if words.len() - pos < size.0 {
+    // A plain number here: with the struct LLVM writes every answer in pieces, and the walk of messages costs a tenth more.
+    let size = size_of(ump_type).0;
+    if words.len() - pos < size {
         return Walked::Refused {
             refusal: Refusal::TooFewWords,
             next: WordNumber(words.len()),
@@ -99,8 +100,8 @@ fn walk_other(ump_type: u32, words: &[u32], pos: usize) -> Walked
     }
     Walked::Other {
         ump_type,
-        size,
-        next: WordNumber(pos + size.0),
+        size: WordNumber(size),
+        next: WordNumber(pos + size),
     }
 }
 
