@@ -100,16 +100,17 @@ fn read_kind(kind: Kind, words: &[u32]) -> Read
 }
 
 // Whether one pass over the heads rules out refusals 4 to 8, for a message of this kind in n packets. The compiler makes a loop for each offset.
-fn heads_right(kind: Kind, words: &[u32], n: PacketNumber) -> bool
-    ensures { λ r. ⌜ r ≡ headsRight kind (now (words .entry)) (n .0) ⌝ }
+// n is a plain number here: of a struct LLVM forgets that it is at most 64.
+fn heads_right(kind: Kind, words: &[u32], n: usize) -> bool
+    ensures { λ r. ⌜ r ≡ headsRight kind (now (words .entry)) n ⌝ }
 {
-    if most_packets(kind).0 < n.0 {
+    if most_packets(kind).0 < n {
         return false;
     }
     if offset_of(kind) == 0 {
-        return headed_packets(words, 0).0 == n.0;
+        return headed_packets(words, 0).0 == n;
     }
-    headed_packets(words, 1).0 == n.0
+    headed_packets(words, 1).0 == n
 }
 
 // Refusals 4 to 11, one rule after the other, else the message.
@@ -137,11 +138,11 @@ pub fn read(words: &[u32]) -> Read
     if words.len() % 4 != 0 {
         return Read::Refused(Refusal::NotWholePackets);
     }
-    let n = packets_of(words);
-    if n.0 > 64 {
+    let n = packets_of(words).0;
+    if n > 64 {
         return Read::Refused(Refusal::TooManyPackets);
     }
-    let to = first_word(n).0;
+    let to = first_word(PacketNumber(n)).0;
     let packets = &words[..to];
     if let Known::Is(kind) = kind_of(status_of(words[0])) {
         if heads_right(kind, packets, n) {

@@ -19,16 +19,23 @@ use records::answers::Walked;
 use standard::Framed;
 use standard::Step;
 
+// The number of words in a message of this type, as a plain number: with the struct LLVM writes every answer of the walk in pieces, and a walk of messages takes a tenth longer.
+fn plain_size(ump_type: u32) -> usize
+    ensures { λ r. ⌜ r ≡ sizeOf «ump_type» ⌝ }
+{
+    match ump_type {
+        0 | 1 | 2 | 6 | 7 => 1,
+        3 | 4 | 8 | 9 | 10 => 2,
+        11 | 12 => 3,
+        _ => 4,
+    }
+}
+
 // The number of words in a message of this type.
 pub fn size_of(ump_type: u32) -> WordNumber
     ensures { λ r. ⌜ r ≡ word (sizeOf «ump_type») ⌝ }
 {
-    match ump_type {
-        0 | 1 | 2 | 6 | 7 => WordNumber(1),
-        3 | 4 | 8 | 9 | 10 => WordNumber(2),
-        11 | 12 => WordNumber(3),
-        _ => WordNumber(4),
-    }
+    WordNumber(plain_size(ump_type))
 }
 
 // What a packet's format means: a first packet must be Complete or Start, a later one Continue or End.
@@ -90,8 +97,7 @@ fn walk_other(ump_type: u32, words: &[u32], pos: usize) -> Walked
     requires { ⌜ pos < length (now words) ⌝ }
     ensures { λ r. ⌜ r ≡ otherOf «ump_type» (now (words .entry)) pos ⌝ }
 {
-    // A plain number here: with the struct LLVM writes every answer in pieces, and the walk of messages costs a tenth more.
-    let size = size_of(ump_type).0;
+    let size = plain_size(ump_type);
     if words.len() - pos < size {
         return Walked::Refused {
             refusal: Refusal::TooFewWords,

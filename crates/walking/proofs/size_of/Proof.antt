@@ -1,20 +1,9 @@
--- The sizes of types: the match's chain of tests is the definition's.
-use mathlib.Core.Path.{refl, ap}
-use borrow.Author.Tests.{lt-ltb, le-ltb}
-use Rattle.laws.proofs.Pick.{here, past}
+-- The size of a type as a word number.
+use mathlib.Core.Path.{ap}
 use Rattle.counts.specs.Counts.{word}
-use Rattle.standard.specs.Walk.{sizeOf}
+use borrow.Author.Needs.{needs}
 use Rattle.walking.proofs.size_of.Statement.{statement}
 use Rattle.walking.proofs.size_of.Tie as tie
 
 pub size-of-spec : {M : Type 1} → statement M
-unfolding sizeOf
-size-of-spec =
-    tie.close (tie.spec
-    (λ c. ap word (past _ (le-ltb _ _ (c .before .before .before .before .before .if1 .left)) (past _ (le-ltb _ _ (c .before .before .before .before .if2 .left)) (past _ (le-ltb _ _ (c .before .before .before .if3 .left)) (past _ (le-ltb _ _ (c .before .before .if4 .left)) (past _ (le-ltb _ _ (c .before .if5 .left)) (here _ (lt-ltb _ _ (c .if6 .taken)) refl)))))))
-    (λ c. ap word (past _ (le-ltb _ _ (c .before .before .if1 .left)) (past _ (le-ltb _ _ (c .before .if2 .left)) (here _ (lt-ltb _ _ (c .if3 .taken)) refl))))
-    (λ c. ap word (past _ (le-ltb _ _ (c .before .before .before .before .before .if1 .left)) (past _ (le-ltb _ _ (c .before .before .before .before .if2 .left)) (past _ (le-ltb _ _ (c .before .before .before .if3 .left)) (past _ (le-ltb _ _ (c .before .before .if4 .left)) (past _ (le-ltb _ _ (c .before .if5 .left)) (past _ (le-ltb _ _ (c .if6 .left)) refl)))))))
-    (λ c. ap word (past _ (le-ltb _ _ (c .before .if1 .left)) (here _ (lt-ltb _ _ (c .if2 .taken)) refl)))
-    (λ c. ap word (past _ (le-ltb _ _ (c .before .before .before .before .if1 .left)) (past _ (le-ltb _ _ (c .before .before .before .if2 .left)) (past _ (le-ltb _ _ (c .before .before .if3 .left)) (past _ (le-ltb _ _ (c .before .if4 .left)) (here _ (lt-ltb _ _ (c .if5 .taken)) refl))))))
-    (λ c. ap word (here _ (lt-ltb _ _ (c .if1 .taken)) refl))
-    (λ c. ap word (past _ (le-ltb _ _ (c .before .before .before .if1 .left)) (past _ (le-ltb _ _ (c .before .before .if2 .left)) (past _ (le-ltb _ _ (c .before .if3 .left)) (here _ (lt-ltb _ _ (c .if4 .taken)) refl))))))
+size-of-spec = tie.close (tie.spec (λ c κs. search needs) (λ c. ap word (c .plain-size .ensures)))

@@ -8,13 +8,13 @@ use Rattle.reading.proofs.message.heads_right.Statement.{statement}
 use Rattle.reading.proofs.message.heads_right.Tie as tie
 
 returns : tie.Need-returns
-returns c = too-many _ _ _ (rw (c .before .before .before .most-packets .ensures) at (c .if1 .taken))
+returns c = too-many _ _ _ (rw (c .before .before .most-packets .ensures) at (c .if1 .taken))
 
 returns-2 : tie.Need-returns-2
-returns-2 c = not-many (c .before .before .before .before .before .before .before .before .before .before .args .kind) _ _ _ (rw (c .before .before .before .before .before .before .before .before .most-packets .ensures) at (c .before .before .before .before .before .if1 .left)) (sym (c .before .before .before .if2 .taken) ∙ c .before .before .before .before .offset-of .ensures) (ap (λ (x : PacketNumber). x .0) (c .before .before .headed-packets .ensures))
+returns-2 c = not-many (c .before .before .before .before .before .before .before .before .args .kind) _ _ _ (rw (c .before .before .before .before .before .before .most-packets .ensures) at (c .before .before .before .before .if1 .left)) (sym (c .before .before .if2 .taken) ∙ c .before .before .before .offset-of .ensures) (ap (λ (x : PacketNumber). x .0) (c .before .headed-packets .ensures))
 
 returns-3 : tie.Need-returns-3
-returns-3 c = not-many (c .before .before .before .before .before .before .before .before .before .before .args .kind) _ _ _ (rw (c .before .before .before .before .before .before .before .before .most-packets .ensures) at (c .before .before .before .before .before .if1 .left)) (offset-one (c .before .before .before .before .before .before .before .before .before .before .args .kind) (c .before .before .before .before .offset-of .ensures) (c .before .before .before .if2 .left)) (ap (λ (x : PacketNumber). x .0) (c .before .before .headed-packets2 .ensures))
+returns-3 c = not-many (c .before .before .before .before .before .before .before .before .args .kind) _ _ _ (rw (c .before .before .before .before .before .before .most-packets .ensures) at (c .before .before .before .before .if1 .left)) (offset-one (c .before .before .before .before .before .before .before .before .args .kind) (c .before .before .before .offset-of .ensures) (c .before .before .if2 .left)) (ap (λ (x : PacketNumber). x .0) (c .before .headed-packets2 .ensures))
 
 pub heads-right-spec : {M : Type 1} → statement M
 heads-right-spec =

@@ -21,24 +21,24 @@ returns-2 c = past _ (le-ltb _ _ (c .before .if1 .left)) (here _ (ne-differ _ 0 
 
 returns-3 : tie.Need-returns-3
 unfolding readOf
-returns-3 c = past _ (le-ltb _ _ (c .before .before .before .before .if1 .left)) (past _ (eq-differ _ 0 (c .before .before .before .if2 .left)) (here _ (lt-ltb _ _ (rw (c .before .before .packets-of .ensures) at (c .if3 .taken))) refl))
+returns-3 c = past _ (le-ltb _ _ (c .before .before .before .if1 .left)) (past _ (eq-differ _ 0 (c .before .before .if2 .left)) (here _ (lt-ltb _ _ (rw (c .before .packets-of .ensures) at (c .if3 .taken))) refl))
 
 slice-aggregate-packets : tie.Need-slice-aggregate-packets
-slice-aggregate-packets c = all-count (c .before .before .before .before .before .before .before .before .args .words .now) (c .before .before .before .before .packets-of .ensures) (c .before .first-word .ensures) (omega arith) (c .before .before .before .before .before .before .if1 .left) (c .before .before .before .before .before .if2 .left)
+slice-aggregate-packets c = all-count (c .before .before .before .before .before .before .before .args .words .now) (c .before .before .before .packets-of .ensures) (c .before .first-word .ensures) (omega arith) (c .before .before .before .before .before .if1 .left) (c .before .before .before .before .if2 .left)
 
 read-body-requires : tie.Need-read-body-requires
-read-body-requires c κs = all-long (c .before .before .before .before .before .before .before .before .before .before .before .before .before .before .before .before .args .words .now) (c .before .before .before .before .before .before .before .before .before .before .before .before .packets-of .ensures) (c .before .before .before .before .before .before .before .before .before .first-word .ensures) (omega arith) (c .before .before .before .before .before .before .before .before .before .before .before .before .before .before .if1 .left) (c .before .before .before .before .before .before .before .before .before .before .before .before .before .if2 .left)
+read-body-requires c κs = all-long (c .before .before .before .before .before .before .before .before .before .before .before .before .before .before .before .args .words .now) (c .before .before .before .before .before .before .before .before .before .before .before .packets-of .ensures) (c .before .before .before .before .before .before .before .before .before .first-word .ensures) (omega arith) (c .before .before .before .before .before .before .before .before .before .before .before .before .before .if1 .left) (c .before .before .before .before .before .before .before .before .before .before .before .before .if2 .left)
 
 returns-4 : tie.Need-returns-4
 returns-4 c =
     let known = ap (λ (x : ℕ). kindOf x) (sym (c .before .before .before .before .before .before .before .status-of .ensures)) ∙ sym (c .before .before .before .before .before .before .kind-of .ensures) ∙ c .before .before .before .before .kind .given .1 in
-    c .read-body .ensures ∙ all-headed (c .before .before .before .before .before .before .before .before .before .before .before .before .before .before .before .before .before .args .words .now) (c .before .before .before .before .before .before .before .before .before .before .before .before .before .packets-of .ensures) (c .before .before .before .before .before .before .before .before .before .before .first-word .ensures) (omega arith) (c .before .before .before .before .before .before .before .before .before .before .before .before .before .before .before .if1 .left) (c .before .before .before .before .before .before .before .before .before .before .before .before .before .before .if2 .left) _ known (sym (c .before .before .heads-right .ensures) ∙ c .before .if4 .taken)
+    c .read-body .ensures ∙ all-headed (c .before .before .before .before .before .before .before .before .before .before .before .before .before .before .before .before .args .words .now) (c .before .before .before .before .before .before .before .before .before .before .before .before .packets-of .ensures) (c .before .before .before .before .before .before .before .before .before .before .first-word .ensures) (omega arith) (c .before .before .before .before .before .before .before .before .before .before .before .before .before .before .if1 .left) (c .before .before .before .before .before .before .before .before .before .before .before .before .before .if2 .left) _ known (sym (c .before .before .heads-right .ensures) ∙ c .before .if4 .taken)
 
 read-rules-requires : tie.Need-read-rules-requires
-read-rules-requires c κs = all-long (c .before .before .before .before .before .before .before .before .before .before .before .before .args .words .now) (c .before .before .before .before .before .before .before .before .packets-of .ensures) (c .before .before .before .before .before .first-word .ensures) (omega arith) (c .before .before .before .before .before .before .before .before .before .before .if1 .left) (c .before .before .before .before .before .before .before .before .before .if2 .left)
+read-rules-requires c κs = all-long (c .before .before .before .before .before .before .before .before .before .before .before .args .words .now) (c .before .before .before .before .before .before .before .packets-of .ensures) (c .before .before .before .before .before .first-word .ensures) (omega arith) (c .before .before .before .before .before .before .before .before .before .if1 .left) (c .before .before .before .before .before .before .before .before .if2 .left)
 
 returns-5 : tie.Need-returns-5
-returns-5 c = c .read-rules .ensures ∙ all-rules (c .before .before .before .before .before .before .before .before .before .before .before .before .before .args .words .now) (c .before .before .before .before .before .before .before .before .before .packets-of .ensures) (c .before .before .before .before .before .before .first-word .ensures) (omega arith) (c .before .before .before .before .before .before .before .before .before .before .before .if1 .left) (c .before .before .before .before .before .before .before .before .before .before .if2 .left) (c .before .before .before .before .before .before .before .if3 .left)
+returns-5 c = c .read-rules .ensures ∙ all-rules (c .before .before .before .before .before .before .before .before .before .before .before .before .args .words .now) (c .before .before .before .before .before .before .before .before .packets-of .ensures) (c .before .before .before .before .before .before .first-word .ensures) (omega arith) (c .before .before .before .before .before .before .before .before .before .before .if1 .left) (c .before .before .before .before .before .before .before .before .before .if2 .left) (c .before .before .before .before .before .before .before .if3 .left)
 
 pub read-spec : {M : Type 1} → statement M
 read-spec =
