@@ -100,7 +100,7 @@ fn read_kind(kind: Kind, words: &[u32]) -> Read
 }
 
 // Whether one pass over the heads rules out refusals 4 to 8, for a message of this kind in n packets. The compiler makes a loop for each offset.
-// n is a plain number here: of a struct LLVM forgets that it is at most 64.
+// n is a plain number: LLVM forgets that a number in a struct is at most 64.
 fn heads_right(kind: Kind, words: &[u32], n: usize) -> bool
     ensures { λ r. ⌜ r ≡ headsRight kind (now (words .entry)) n ⌝ }
 {

@@ -66,6 +66,7 @@ pub record ToldRefusals : Type 0 where
   pub three-words : Reads (0xF0030000 ∷ 0 ∷ 0 ∷ []) (refusal 1 0)
   -- 2: not a multiple of four
   pub five-words : Reads (heads (0xF0030000 ∷ []) ++ 0xF0030000 ∷ []) (refusal 2 0)
+  pub six-words : Reads (heads (0xF0030000 ∷ []) ++ 0xF0030000 ∷ 0 ∷ []) (refusal 2 0)
   -- 3: 64 packets are accepted, 65 refused
   pub sixty-four : Reads (startAnd 62 ++ heads (0xFC030000 ∷ [])) (accepted (0x03 ∷ 64 ∷ []))
   pub sixty-five : Reads (startAnd 63 ++ heads (0xFC030000 ∷ [])) (refusal 3 0)

@@ -111,6 +111,7 @@ pub record ToldFraming : Type 0 where
   -- 4 and 6 in framing: four words on
   pub type : Walks (after (heads (0xF4030000 ∷ 0xF8030000 ∷ 0x3C030000 ∷ []))) 1 (refusedTo 5 4 2)
   pub status : Walks (after (heads (0xF4030000 ∷ 0xFC040000 ∷ []))) 1 (refusedTo 5 6 1)
+  pub later-status : Walks (heads (0xF4030000 ∷ 0xF8030000 ∷ 0xFC040000 ∷ [])) 0 (refusedTo 4 6 2)
   -- 1: fewer than four words left, and the length is next
   pub first-cut : Walks (0xF0030000 ∷ 0 ∷ 0 ∷ []) 0 (refusedTo 3 1 0)
   pub later-cut : Walks (after (heads (0xF4030000 ∷ 0xF8030000 ∷ []) ++ 0xFC030000 ∷ 0 ∷ 0 ∷ [])) 1 (refusedTo 12 1 0)

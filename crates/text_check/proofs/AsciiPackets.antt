@@ -30,7 +30,7 @@ module _ (ws : List ℕ) (offset : ℕ) where
       rw (ascii-word-stays _ (t .0), ascii-word-stays _ (t .1), ascii-word-stays _ (t .2), ascii-word-stays _ (t .3)) at (packets-turn ws offset 0 p n h st)
 
   -- after k ASCII packets no character is open
-  pub ascii-passed : (n k : ℕ) → k ≤ n → ((p : ℕ) → p < k → asciiPacket ws offset p ≡ true) → AtPacket ws offset 0 k n
+  ascii-passed : (n k : ℕ) → k ≤ n → ((p : ℕ) → p < k → asciiPacket ws offset p ≡ true) → AtPacket ws offset 0 k n
   ascii-passed n zero h plain = packets-begin ws offset n
   ascii-passed n (suc k) h plain = rw add-one at (packet-turn k n (omega arith) (plain k (omega arith)) (ascii-passed n k (omega arith) (λ p l. plain p (omega arith))))
 

@@ -146,7 +146,7 @@ asciiTexts ws offset p =
 unfoldable pub asciiPacket : List ℕ → ℕ → ℕ → Bool
 asciiPacket ws offset p = pick (leb (length ws / 4) p) false (asciiTexts ws offset p)
 
--- so have the first n packets
+-- each of the first n packets is such a packet
 pub record AsciiStart (ws : List ℕ) (offset n : ℕ) : Type 0 where
   pub in-bounds : n ≤ length ws / 4
   pub ascii : (p : ℕ) → p < n → asciiPacket ws offset p ≡ true
