@@ -1,47 +1,40 @@
 -- How the code reaches each case of a record from numbers, and the bounds of numbers that fit. Closed by the tests that lead there.
 use Prim.Native.Nat.{ℕ, _^_, _<_}
-use mathlib.Core.Path.{_≡_, sym, ap, _∙_}
+use mathlib.Core.Path.{_≡_, refl}
+use lib.Dec.{ltb}
 use mathlib.Core.Bool.{true, false}
 use mathlib.Core.List.{List, [], _∷_}
-use lib.Dec.{eqb}
-use lib.ListN.{getD}
-use borrow.Author.Tests.{ltb-true}
+use borrow.Author.Tests.{ltb-true, eq-eqb, ne-eqb}
 use Rattle.laws.proofs.Pick.{both-left, both-right}
 use Rattle.laws.specs.Pick.{both}
 use Rattle.laws.specs.Lists.{each}
 use Rattle.slots.specs.Slots.{Slot, fits}
 use Rattle.kinds.specs.declared.kind.Kind.{Kind}
-use Rattle.kinds.specs.declared.kind.Known.{Known}
-use Rattle.kinds.specs.declared.kind.Known.the-variants.{Is}
-use Rattle.kinds.specs.declared.refusal.Refusal.the-variants.{BadPort, BadDirection, NumberTooLarge}
-use Rattle.kinds.specs.Choices.{noPort, noDirection}
-use Rattle.kinds.specs.Fields.{Field, same, decided, start, partOf}
-use Rattle.kinds.specs.Layout.{Part, layout, kindOf, parts}
-use Rattle.records.specs.declared.message.Message.{Message}
+use Rattle.kinds.specs.declared.refusal.Refusal.the-variants.{NumberTooLarge}
+use Rattle.kinds.specs.Fields.{same, decided, start, partOf}
+use Rattle.kinds.specs.Layout.{Part, Body, fixed, texts, layout, mostIn, hasText, kindOf, parts}
+use Rattle.table.specs.declared.rows.Row.{Row}
+use Rattle.table.specs.Rows.{RowIs, tableRow}
 use Rattle.records.specs.Records.{recordOf, lookup, firstPart}
 use Rattle.numbers.specs.declared.Numbers.{Numbers}
-use Rattle.numbers.specs.declared.to_record.FromNumbers.{FromNumbers}
 use Rattle.numbers.specs.declared.to_record.FromNumbers.the-variants as G
-use Rattle.numbers.specs.FromNumbers.{Fitting, spread, valuesFrom, fromKind, fromKnown, fromNumbers}
+use Rattle.numbers.specs.FromNumbers.{Fitting, spread, valuesFrom, isRecord, fromKind, otherKind, fromOwn}
 
 module _ (k : Kind) (c : Numbers) where
-  pub from-large : fits (layout k .fields) (parts (valuesFrom k c)) ≡ false → fromKind k c ≡ G.Refused NumberTooLarge
+  pub from-refused : isRecord k c ≡ false → fromKind k c ≡ G.Refused NumberTooLarge
   unfolding fromKind
-  from-large h = rw h
+  from-refused h = rw h
 
-  module _ (h : fits (layout k .fields) (parts (valuesFrom k c)) ≡ true) where
-    pub from-port : eqb (getD (valuesFrom k c Field.midi1-port) 0 0) noPort ≡ true → fromKind k c ≡ G.Refused BadPort
-    unfolding fromKind
-    from-port p = rw (h, p)
+  pub from-whole : isRecord k c ≡ true → fromKind k c ≡ G.Message (recordOf k (c .packets) (valuesFrom k c))
+  unfolding fromKind
+  from-whole h = rw h
 
-    module _ (p : eqb (getD (valuesFrom k c Field.midi1-port) 0 0) noPort ≡ false) where
-      pub from-direction : eqb (getD (valuesFrom k c Field.direction) 0 0) noDirection ≡ true → fromKind k c ≡ G.Refused BadDirection
-      unfolding fromKind
-      from-direction d = rw (h, p, d)
+  -- of the status that is wanted, or of another
+  pub own-status : c .status ≡ layout k .status → fromOwn k c ≡ fromKind k c
+  own-status s = rw (eq-eqb _ _ s)
 
-      pub from-whole : eqb (getD (valuesFrom k c Field.direction) 0 0) noDirection ≡ false → fromKind k c ≡ G.Message (recordOf k (c .packets) (valuesFrom k c))
-      unfolding fromKind
-      from-whole d = rw (h, p, d)
+  pub other-status : (c .status ≡ layout k .status → ⊥) → fromOwn k c ≡ G.Refused (otherKind (kindOf (c .status)))
+  other-status n = rw (ne-eqb _ _ n)
 
 -- to unfold this is to unfold what computes the values of numbers at a kind
 unfoldable pub computed : Unit {0}
@@ -64,10 +57,10 @@ small k h = fits-small _ _ (h .is)
 pub fitting : (k : Kind) {j : Kind} {c : Numbers} → j ≡ k → Fitting j c → Fitting k c
 fitting k e h = rw e at h
 
--- a record of a kind that was told, where its choices are named ones
-pub told-whole : (k : Kind) {j : Kind} {c : Numbers} {m : Message} → j ≡ k → Fitting j c → eqb (getD (valuesFrom k c Field.midi1-port) 0 0) noPort ≡ false → eqb (getD (valuesFrom k c Field.direction) 0 0) noDirection ≡ false → m ≡ recordOf k (c .packets) (valuesFrom k c) → G.Message m ≡ fromKind j c
-told-whole k {j} {c} e h p d q = ap G.Message q ∙ sym (from-whole k c (fitting k e h .is) p d) ∙ ap (λ (i : Kind). fromKind i c) (sym e)
+-- a kind has text where its row has more than one packet
+pub text-most : (b : Body) → ltb 1 (mostIn b) ≡ hasText b
+text-most fixed = refl
+text-most (texts t from) = refl
 
--- what is said of a kind is said of the numbers that have its status
-pub known : (c : Numbers) {k : Kind} {x : FromNumbers} → kindOf (c .status) ≡ Is k → x ≡ fromKind k c → x ≡ fromNumbers c
-known c e q = q ∙ ap (λ (n : Known). fromKnown n c) (sym e)
+pub text-row : (k : Kind) {r : Row} → RowIs (tableRow k) r → ltb 1 (r .«most_packets») ≡ hasText (layout k .body)
+text-row k q = rw (q .most) (text-most (layout k .body))

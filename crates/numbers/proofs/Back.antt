@@ -1,37 +1,37 @@
 -- A RECORD COMES BACK FROM ITS NUMBERS, and accepted numbers are those of the record that they make. Closed by computing the table at each kind, and the laws of the codes.
 use Prim.Native.Nat.{ℕ, _≤_}
 use mathlib.Core.Path.{_≡_, refl, sym, ap, _∙_}
-use mathlib.Core.Bool.{true, false}
+use mathlib.Core.Bool.{Bool, true, false}
 use mathlib.Core.Logic.{_≢_}
 use mathlib.Core.List.{List, [], _∷_}
 use native.Mathlib.Omega.{arith}
 use lib.ListN.{length, getD, take}
 use lib.Dec.{eqb}
-use borrow.Author.Tests.{ne-eqb, eqb-false, not-false}
+use borrow.Author.Tests.{ne-eqb, eqb-true, eqb-false}
+use Rattle.laws.specs.Pick.{pick, both, differ}
 use Rattle.laws.specs.Lists.{each}
-use Rattle.laws.proofs.Pick.{never, passed}
+use Rattle.laws.proofs.Pick.{never, true-false, passed, split, both-left, both-right, both-true, ne-differ, eq-differ}
 use Rattle.slots.specs.Slots.{fits}
 use Rattle.fields.specs.Puts.{putIns}
 use Rattle.kinds.specs.declared.kind.Kind.{Kind}
 use Rattle.kinds.specs.declared.kind.Kind.the-variants as K
-use Rattle.kinds.specs.declared.kind.Known.{Known}
-use Rattle.kinds.specs.declared.kind.Known.the-variants.{Is, Unknown}
 use Rattle.kinds.specs.declared.refusal.Refusal.{Refusal}
 use Rattle.kinds.specs.declared.refusal.Refusal.the-variants.{NumberTooLarge}
 use Rattle.kinds.specs.Choices.{noPort, noDirection}
 use Rattle.kinds.specs.Fields.{Field, same, decided, start, partOf}
-use Rattle.kinds.specs.Layout.{layout, kinds, kindOf, parts}
-use Rattle.kinds.proofs.Rows.{status-kind, among-status}
+use Rattle.kinds.specs.Layout.{layout, parts}
+use Rattle.kinds.proofs.Homes.{one-status}
 use Rattle.kinds.proofs.Codes.{flag-bit, code-hint, code-port, code-direction}
 use Rattle.records.specs.declared.message.Message.{Message}
 use Rattle.records.specs.declared.message.Message.the-variants as M
 use Rattle.records.specs.Records.{Valued, kindIn, packetsIn, recordOf, fieldsIn, lookup, valuesOf, firstPart, inOrder}
-use Rattle.records.proofs.Records.{record-back, record-kind, port-named, direction-named}
+use Rattle.records.proofs.Records.{record-back, port-named, direction-named}
 use Rattle.numbers.specs.declared.Numbers.{Numbers}
+use Rattle.numbers.specs.declared.Reserved.{Reserved}
 use Rattle.numbers.specs.declared.to_record.FromNumbers.the-variants as G
-use Rattle.numbers.specs.Numbers.{numbered, asNumbers, nine}
-use Rattle.numbers.specs.FromNumbers.{spread, valuesFrom, fromKind, fromKnown, fromNumbers, trimmed}
-use Rattle.numbers.proofs.Accepted.{from-large, from-whole, Small, fits-small}
+use Rattle.numbers.specs.Numbers.{unused, numbered, asNumbers, nine}
+use Rattle.numbers.specs.FromNumbers.{spread, valuesFrom, choicesNamed, isRecord, fromKind, fromOwn, trimmed}
+use Rattle.numbers.proofs.Accepted.{from-refused, from-whole, own-status, other-status, Small, fits-small}
 
 -- ---- the fields take the record's own values again
 spread-back : (m : Message) → spread (inOrder (kindIn m)) (nine (asNumbers m)) ≡ fieldsIn m
@@ -45,8 +45,12 @@ spread-back (M.FunctionBlockInfo e) = refl
 spread-back (M.FunctionBlockName b n) = refl
 
 module _ (m : Message) where
-  own-kind : fromNumbers (asNumbers m) ≡ fromKind (kindIn m) (asNumbers m)
-  own-kind = ap (λ (x : Known). fromKnown x (asNumbers m)) (status-kind (kindIn m))
+  own-kind : fromOwn (kindIn m) (asNumbers m) ≡ fromKind (kindIn m) (asNumbers m)
+  own-kind = own-status (kindIn m) (asNumbers m) refl
+
+  own-named : choicesNamed (kindIn m) (asNumbers m) ≡ true
+  own-named =
+      ap (λ (xs : List Valued). pick (eqb (getD (lookup xs Field.midi1-port) 0 0) noPort) false (differ (getD (lookup xs Field.direction) 0 0) noDirection)) (spread-back m) ∙ rw (ne-eqb _ noPort (port-named m)) (ne-differ _ noDirection (direction-named m))
 
   pub own-fits : fits (layout (kindIn m) .fields) (parts (valuesFrom (kindIn m) (asNumbers m))) ≡ fits (layout (kindIn m) .fields) (parts (valuesOf m))
   own-fits = ap (λ (xs : List Valued). fits (layout (kindIn m) .fields) (parts (lookup xs))) (spread-back m)
@@ -59,14 +63,14 @@ module _ (m : Message) where
   own-record = ap (λ (xs : List Valued). recordOf (kindIn m) (packetsIn m) (lookup xs)) (spread-back m) ∙ record-back m
 
   -- A RECORD WHOSE NUMBERS FIT THE TABLE COMES BACK
-  pub numbers-back : fits (layout (kindIn m) .fields) (parts (valuesOf m)) ≡ true → fromNumbers (asNumbers m) ≡ G.Message m
+  pub numbers-back : fits (layout (kindIn m) .fields) (parts (valuesOf m)) ≡ true → fromOwn (kindIn m) (asNumbers m) ≡ G.Message m
   numbers-back h =
-      own-kind ∙ from-whole (kindIn m) (asNumbers m) (own-fits ∙ h) (ap (λ (xs : List Valued). eqb (getD (lookup xs Field.midi1-port) 0 0) noPort) (spread-back m) ∙ ne-eqb _ noPort (port-named m))
-      (ap (λ (xs : List Valued). eqb (getD (lookup xs Field.direction) 0 0) noDirection) (spread-back m) ∙ ne-eqb _ noDirection (direction-named m)) ∙ ap G.Message own-record
+      own-kind ∙ from-whole (kindIn m) (asNumbers m) (both-true _ _ (own-fits ∙ h) own-named) ∙ ap G.Message own-record
 
   -- and every other is refused with 12, as where it is written
-  pub numbers-large : fits (layout (kindIn m) .fields) (parts (valuesOf m)) ≡ false → fromNumbers (asNumbers m) ≡ G.Refused NumberTooLarge
-  numbers-large h = own-kind ∙ from-large (kindIn m) (asNumbers m) (own-fits ∙ h)
+  pub numbers-large : fits (layout (kindIn m) .fields) (parts (valuesOf m)) ≡ false → fromOwn (kindIn m) (asNumbers m) ≡ G.Refused NumberTooLarge
+  unfolding both
+  numbers-large h = own-kind ∙ from-refused (kindIn m) (asNumbers m) (rw (own-fits ∙ h))
 
 -- ---- the other direction
 -- the record of the numbers has them, those of its kind
@@ -86,27 +90,31 @@ message-is m n e = cc
 refused-message : {r : Refusal} {m : Message} → G.Refused r ≡ G.Message m → ⊥
 refused-message e = never (cc)
 
-kind-numbers : (k : Kind) (c : Numbers) (m : Message) → c .status ≡ layout k .status → fromKind k c ≡ G.Message m → asNumbers m ≡ trimmed (kindIn m) c
-unfolding fromKind
-kind-numbers k c m s e =
-    let a = passed _ _ _ (G.Message m) refused-message e in
-    let b = passed _ _ _ (G.Message m) refused-message (a .1) in
-    let d = passed _ _ _ (G.Message m) refused-message (b .1) in
-    let is : recordOf k (c .packets) (valuesFrom k c) ≡ m = message-is _ _ (d .1) in
-    rw (← is)
-    (record-numbers k c s (fits-small _ _ (not-false _ (a .0))) (eqb-false _ _ (b .0)) (eqb-false _ _ (d .0)) ∙ ap (λ (j : Kind). trimmed j c) (sym (record-kind k (c .packets) (valuesFrom k c))))
+-- numbers that are accepted have the status of the kind
+pub accepted-status : (k : Kind) (c : Numbers) (m : Message) → fromOwn k c ≡ G.Message m → c .status ≡ layout k .status
+accepted-status k c m e =
+    split (eqb (c .status) (layout k .status)) (eqb-true _ _) (λ n. absurd (refused-message (sym (other-status k c (eqb-false _ _ n)) ∙ e)))
 
 -- THE NUMBERS OF THE RECORD THAT NUMBERS MAKE are those that were given, but for what the kind has not
-pub accepted-numbers : (c : Numbers) (m : Message) → fromNumbers c ≡ G.Message m → asNumbers m ≡ trimmed (kindIn m) c
-accepted-numbers c m e = go (kindOf (c .status)) refl e
+pub accepted-numbers : (k : Kind) (c : Numbers) (m : Message) → fromOwn k c ≡ G.Message m → asNumbers m ≡ trimmed k c
+accepted-numbers k c m e = let s = accepted-status k c m e in split (isRecord k c) (whole s) (λ h. absurd (refused-message (sym (own-status k c s ∙ from-refused k c h) ∙ e)))
   where
-    go : (n : Known) → kindOf (c .status) ≡ n → fromKnown n c ≡ G.Message m → asNumbers m ≡ trimmed (kindIn m) c
-    go Unknown q e′ = absurd (refused-message e′)
-    go (Is k) q e′ = kind-numbers k c m (among-status kinds (c .status) k q) e′
+    whole : c .status ≡ layout k .status → isRecord k c ≡ true → asNumbers m ≡ trimmed k c
+    whole s h =
+        let is : recordOf k (c .packets) (valuesFrom k c) ≡ m = message-is _ _ (sym (own-status k c s ∙ from-whole k c h) ∙ e) in
+        let named = passed _ _ _ true (λ q. true-false (sym q)) (both-right _ _ h) in
+        rw (← is) (record-numbers k c s (fits-small _ _ (both-left _ _ h)) (eqb-false _ _ (named .0)) (λ d. true-false (sym (named .1) ∙ eq-differ _ _ d)))
+
+-- and the record is of the kind
+pub accepted-kind : (k : Kind) (c : Numbers) (m : Message) → fromOwn k c ≡ G.Message m → kindIn m ≡ k
+accepted-kind k c m e = one-status _ _ (ap (λ (x : Numbers). x .status) (accepted-numbers k c m e) ∙ accepted-status k c m e)
 
 -- all numbers in a row are the numbers, so that `trimmed` leaves out no others
-pub nine-back : (c : Numbers) → numbered (c .status) (c .packets) (nine c) ≡ c
-nine-back c = refl
+pub nine-back : (c : Numbers) → c .reserved ≡ unused → numbered (c .status) (c .packets) (nine c) ≡ c
+nine-back c e =
+    ap
+    (λ (r : Reserved). record { status = c .status; packets = c .packets; first = c .first; second = c .second; third = c .third; fourth = c .fourth; fifth = c .fifth; sixth = c .sixth; seventh = c .seventh; eighth = c .eighth; ninth = c .ninth; reserved = r })
+    (sym e)
 
 -- as many of the nine numbers as were put in a row are these
 pub nine-taken : (s p : ℕ) (xs : List ℕ) → length xs ≤ 9 → take (length xs) (nine (numbered s p xs)) ≡ xs
@@ -134,8 +142,7 @@ trimmed-same K.FunctionBlockInfo c = refl
 trimmed-same K.FunctionBlockName c = refl
 
 -- so what was accepted once is accepted again, as the same record
-pub accepted-again : (c : Numbers) (m : Message) → fromNumbers c ≡ G.Message m → fromNumbers (asNumbers m) ≡ G.Message m
-accepted-again c m e =
-    let q = accepted-numbers c m e in
-    let s : kindOf (c .status) ≡ Is (kindIn m) = ap (λ (x : Numbers). kindOf (x .status)) (sym q) ∙ status-kind (kindIn m) in
-    own-kind m ∙ ap (fromKind (kindIn m)) q ∙ trimmed-same (kindIn m) c ∙ sym (ap (λ (x : Known). fromKnown x c) s) ∙ e
+pub accepted-again : (k : Kind) (c : Numbers) (m : Message) → fromOwn k c ≡ G.Message m → fromOwn k (asNumbers m) ≡ G.Message m
+accepted-again k c m e =
+    let s = accepted-status k c m e in
+    ap (fromOwn k) (accepted-numbers k c m e) ∙ own-status k (trimmed k c) s ∙ trimmed-same k c ∙ sym (own-status k c s) ∙ e

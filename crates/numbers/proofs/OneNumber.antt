@@ -39,12 +39,11 @@ use Rattle.numbers.specs.declared.Numbers.{Numbers}
 use Rattle.numbers.specs.declared.to_record.FromNumbers.{FromNumbers}
 use Rattle.numbers.specs.declared.to_record.FromNumbers.the-variants as G
 use Rattle.numbers.specs.Numbers.{asNumbers}
-use Rattle.numbers.specs.FromNumbers.{valuesFrom, fromKind, fromKnown, fromNumbers, trimmed}
-use Rattle.numbers.specs.SetOne.{choicesNamed, ofKind, isRecordOf, withNumber}
-use Rattle.numbers.proofs.Accepted.{computed as valued, from-large, from-port, from-direction, from-whole}
-use Rattle.numbers.proofs.Back.{accepted-numbers}
+use Rattle.numbers.specs.FromNumbers.{choicesNamed, trimmed}
+use Rattle.numbers.specs.SetOne.{withNumber}
+use Rattle.numbers.proofs.Accepted.{computed as valued}
 
--- ---- numbers that are a record of a kind
+-- ---- numbers that name no choice
 -- every kind but a block info, by its place among the kinds
 abbrev pub butBlock : List ℕ
 butBlock = 0 ∷ 1 ∷ 2 ∷ 3 ∷ 4 ∷ 6 ∷ []
@@ -58,28 +57,6 @@ choiceless K.EndpointName c o = refl
 choiceless K.ProductInstanceId c o = refl
 choiceless K.FunctionBlockInfo c o = absurd (miss butBlock 5 tt o)
 choiceless K.FunctionBlockName c o = refl
-
-module _ (k : Kind) (c : Numbers) where
-  -- of another status
-  pub not-of : (c .status ≡ layout k .status → ⊥) → false ≡ isRecordOf k c
-  not-of n = go (fromNumbers c) refl
-    where
-      go : (g : FromNumbers) → fromNumbers c ≡ g → false ≡ ofKind k g
-      go (G.Refused r) q = refl
-      go (G.Message m) q = sym (ne-eqb _ _ (λ e. n (sym (ap (λ (x : Numbers). x .status) (accepted-numbers c m q)) ∙ e)))
-
-  module _ (s : c .status ≡ layout k .status) where
-    own-from : fromNumbers c ≡ fromKind k c
-    own-from = ap (λ (n : Known). fromKnown n c) (ap kindOf s ∙ status-kind k)
-
-    pub large-of : fits (layout k .fields) (parts (valuesFrom k c)) ≡ false → false ≡ isRecordOf k c
-    large-of h = rw (own-from ∙ from-large k c h)
-
-    pub named-of : fits (layout k .fields) (parts (valuesFrom k c)) ≡ true → choicesNamed k c ≡ isRecordOf k c
-    named-of h =
-        split (eqb (getD (valuesFrom k c Field.midi1-port) 0 0) noPort) (λ p. rw (own-from ∙ from-port k c h p, p))
-        (λ p. split (eqb (getD (valuesFrom k c Field.direction) 0 0) noDirection) (λ d. rw (own-from ∙ from-direction k c h p d, p, d))
-        (λ d. rw (own-from ∙ from-whole k c h p d, p, d) (sym (eq-eqb _ _ (ap (λ (j : Kind). layout j .status) (record-kind k (c .packets) (valuesFrom k c)))))))
 
 -- ---- the setting of one number
 -- the setting's field is slot i of kind k, and x is its number

@@ -1,17 +1,18 @@
 -- A RECORD FROM ITS NUMBERS: what was given may be no record, and is then refused.
 use Prim.Native.Nat.{ℕ, _/_, _%_}
 use mathlib.Core.Path.{_≡_}
-use mathlib.Core.Bool.{Bool, true, false, not}
+use mathlib.Core.Bool.{Bool, true, false}
 use mathlib.Core.List.{List, [], _∷_, _++_}
 use lib.ListN.{length, getD, take, drop}
 use lib.Dec.{ltb, eqb}
-use Rattle.laws.specs.Pick.{pick, both}
+use Rattle.laws.specs.Pick.{pick, both, differ}
 use Rattle.laws.specs.Lists.{each}
 use Rattle.slots.specs.Slots.{fits}
 use Rattle.kinds.specs.declared.kind.Kind.{Kind}
 use Rattle.kinds.specs.declared.kind.Known.{Known}
 use Rattle.kinds.specs.declared.kind.Known.the-variants.{Is, Unknown}
-use Rattle.kinds.specs.declared.refusal.Refusal.the-variants.{UnknownStatus, BadPort, BadDirection, NumberTooLarge}
+use Rattle.kinds.specs.declared.refusal.Refusal.{Refusal}
+use Rattle.kinds.specs.declared.refusal.Refusal.the-variants.{UnknownStatus, NumberTooLarge, NoSuchField}
 use Rattle.kinds.specs.Choices.{noPort, noDirection}
 use Rattle.kinds.specs.Fields.{Field, start}
 use Rattle.kinds.specs.Layout.{layout, kindOf, hasText, parts}
@@ -34,21 +35,36 @@ valuesFrom k c = lookup (spread (inOrder k) (nine c))
 pub record Fitting (k : Kind) (c : Numbers) : Type 0 where
   pub is : fits (layout k .fields) (parts (valuesFrom k c)) ≡ true
 
--- refusal 12 for a number above its field's largest, 9 for port 3, 10 for direction 0; else the record
+-- the numbers name no port 3 and no direction 0
+abbrev pub choicesNamed : Kind → Numbers → Bool
+choicesNamed k c =
+    pick (eqb (getD (valuesFrom k c Field.midi1-port) 0 0) noPort) false
+    (differ (getD (valuesFrom k c Field.direction) 0 0) noDirection)
+
+-- each number is at most its field's largest, and each choice is a named one
+abbrev pub isRecord : Kind → Numbers → Bool
+isRecord k c = both (fits (layout k .fields) (parts (valuesFrom k c))) (choicesNamed k c)
+
+-- refusal 12 for numbers that are no record; otherwise the record
 unfoldable pub fromKind : Kind → Numbers → FromNumbers
-fromKind k c =
-    pick (not (fits (layout k .fields) (parts (valuesFrom k c)))) (G.Refused NumberTooLarge)
-    (pick (eqb (getD (valuesFrom k c Field.midi1-port) 0 0) noPort) (G.Refused BadPort)
-    (pick (eqb (getD (valuesFrom k c Field.direction) 0 0) noDirection) (G.Refused BadDirection)
-    (G.Message (recordOf k (c .packets) (valuesFrom k c)))))
+fromKind k c = pick (isRecord k c) (G.Message (recordOf k (c .packets) (valuesFrom k c))) (G.Refused NumberTooLarge)
 
-abbrev pub fromKnown : Known → Numbers → FromNumbers
-fromKnown Unknown c = G.Refused UnknownStatus
-fromKnown (Is k) c = fromKind k c
+-- numbers of another kind than the one wanted: refusal 5 if no kind has their status, otherwise 13
+abbrev pub otherKind : Known → Refusal
+otherKind Unknown = UnknownStatus
+otherKind (Is j) = NoSuchField
 
--- refusal 5 first
-abbrev pub fromNumbers : Numbers → FromNumbers
-fromNumbers c = fromKnown (kindOf (c .status)) c
+-- A RECORD OF A KIND from its numbers: refusals 5, 13, 12
+abbrev pub fromOwn : Kind → Numbers → FromNumbers
+fromOwn k c = pick (eqb (c .status) (layout k .status)) (fromKind k c) (G.Refused (otherKind (kindOf (c .status))))
+
+abbrev pub fixedKnown : Known → Numbers → FromNumbers
+fixedKnown Unknown c = G.Refused UnknownStatus
+fixedKnown (Is k) c = pick (hasText (layout k .body)) (G.Refused NoSuchField) (fromKind k c)
+
+-- A RECORD OF ANY FIXED KIND from its numbers: refusals 5, 13 for a kind with text, 12
+abbrev pub fromFixed : Numbers → FromNumbers
+fromFixed c = fixedKnown (kindOf (c .status)) c
 
 -- the same in document 01's numbers: the message, or the refusal
 abbrev pub saidFrom : FromNumbers → Said

@@ -6,6 +6,11 @@ use Rattle.kinds.specs.Layout.{layout}
 use Rattle.records.specs.declared.message.Message.{Message}
 use Rattle.records.specs.Records.{kindIn, packetsIn, numbersIn}
 use Rattle.numbers.specs.declared.Numbers.{Numbers}
+use Rattle.numbers.specs.declared.Reserved.{Reserved}
+
+-- the room for later fields, which no answer uses
+abbrev pub unused : Reserved
+unused = record { 0 = 0; 1 = 0; 2 = 0; 3 = 0; 4 = 0 }
 
 abbrev pub numbered : ℕ → ℕ → List ℕ → Numbers
 numbered s p ns =
@@ -21,6 +26,7 @@ numbered s p ns =
       seventh = getD ns 6 0;
       eighth = getD ns 7 0;
       ninth = getD ns 8 0;
+      reserved = unused;
     }
 
 abbrev pub asNumbers : Message → Numbers

@@ -19,4 +19,9 @@ pub struct Numbers {
     pub seventh: u32,
     pub eighth: u32,
     pub ninth: u32,
+    pub reserved: Reserved,
 }
+
+// Room for later fields, so that the struct keeps its size for C: 0 in every answer, and never looked at.
+#[repr(C)]
+pub struct Reserved(pub u32, pub u32, pub u32, pub u32, pub u32);

@@ -5,6 +5,7 @@ ghost use Rattle.kinds.specs.Layout.{layout};
 ghost use Rattle.records.specs.declared.message.Message.the-variants as M;
 ghost use Rattle.numbers.specs.Numbers.{numbered, asNumbers, oneNumber, noNumbers};
 use crate::Numbers;
+use crate::Reserved;
 use kinds::choices::direction_code;
 use kinds::choices::hint_code;
 use kinds::choices::port_code;
@@ -43,6 +44,7 @@ fn of_kind(kind: Kind, packets: usize, numbers: &[u32]) -> Numbers
         seventh: nth(numbers, 6),
         eighth: nth(numbers, 7),
         ninth: nth(numbers, 8),
+        reserved: Reserved(0, 0, 0, 0, 0),
     }
 }
 
@@ -137,6 +139,7 @@ pub fn no_numbers() -> Numbers
         seventh: 0,
         eighth: 0,
         ninth: 0,
+        reserved: Reserved(0, 0, 0, 0, 0),
     }
 }
 

@@ -1,36 +1,28 @@
 // One number of a record of one packet set among its numbers, with no record made.
 ghost use mathlib.Core.Path.{_≡_};
-ghost use Rattle.numbers.specs.SetOne.{choicesNamed, isRecordOf, numberNow, withNumber};
+ghost use Rattle.numbers.specs.FromNumbers.{fromOwn};
+ghost use Rattle.numbers.specs.SetOne.{checked, numberNow, withNumber};
 use crate::Numbers;
-use crate::in_slots::numbers_in_range;
+use crate::Reserved;
+use crate::to_record::is_record;
+use crate::to_record::other_kind;
 use kinds::kind::Kind;
+use kinds::refusal::Refusal;
+use records::answers::Answer;
 use table::rows::row_of;
 
-// Whether the numbers name no port 3 and no direction 0, which only a block info can.
-fn choices_named(kind: Kind, c: Numbers) -> bool
-    ensures { λ r. ⌜ r ≡ choicesNamed kind c ⌝ }
-{
-    let Kind::FunctionBlockInfo = kind else {
-        return true;
-    };
-    if c.fourth == 3 {
-        return false;
-    }
-    c.fifth != 0
-}
-
-// Whether the numbers are those of a record of this kind.
-pub fn is_record_of(kind: Kind, c: Numbers) -> bool
-    ensures { λ r. ⌜ r ≡ isRecordOf kind c ⌝ }
+// Whether the numbers are a record of this kind, or why not: refusals 5, 13, 12.
+pub fn check_record(kind: Kind, c: Numbers) -> Answer
+    ensures { λ r. ⌜ r ≡ checked (fromOwn kind c) ⌝ }
 {
     let row = row_of(kind);
     if c.status != row.status {
-        return false;
+        return Answer::Refused(other_kind(c.status));
     }
-    if numbers_in_range(kind, c) {
-        return choices_named(kind, c);
+    if is_record(kind, c) {
+        return Answer::Done;
     }
-    false
+    Answer::Refused(Refusal::NumberTooLarge)
 }
 
 // Number i after number `at` of `count` is set to x: 0 past the last.
@@ -61,5 +53,6 @@ pub fn with_number(c: Numbers, count: usize, at: usize, x: u32) -> Numbers
         seventh: number_now(count, at, x, 6, c.seventh),
         eighth: number_now(count, at, x, 7, c.eighth),
         ninth: number_now(count, at, x, 8, c.ninth),
+        reserved: Reserved(0, 0, 0, 0, 0),
     }
 }

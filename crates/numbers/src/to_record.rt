@@ -1,8 +1,9 @@
 // A record from its numbers, a function for each fixed kind.
 ghost use mathlib.Core.Path.{_≡_};
 ghost use Rattle.kinds.specs.declared.kind.Kind.the-variants as K;
+ghost use Rattle.kinds.specs.Layout.{kindOf};
 ghost use Rattle.records.specs.Records.{recordOf};
-ghost use Rattle.numbers.specs.FromNumbers.{Fitting, valuesFrom, fromKind, fromNumbers};
+ghost use Rattle.numbers.specs.FromNumbers.{Fitting, valuesFrom, choicesNamed, isRecord, fromKind, otherKind, fromOwn, fromFixed};
 use crate::Numbers;
 use crate::in_slots::numbers_in_range;
 use counts::PacketNumber;
@@ -20,6 +21,7 @@ use records::endpoint_info::EndpointInfo;
 use records::function_block_info::FunctionBlockInfo;
 use records::message::Message;
 use table::rows::kind_of;
+use table::rows::row_of;
 
 pub enum FromNumbers {
     Message(Message),
@@ -91,20 +93,6 @@ fn function_block_info(c: Numbers) -> Message
     })
 }
 
-// Refusals 9 and 10, which only a block info can have; else the record.
-fn named_choices(c: Numbers) -> FromNumbers
-    requires { ⌜ Fitting K.FunctionBlockInfo c ⌝ }
-    ensures { λ r. ⌜ r ≡ fromKind K.FunctionBlockInfo c ⌝ }
-{
-    if c.fourth == 3 {
-        return FromNumbers::Refused(Refusal::BadPort);
-    }
-    if c.fifth == 0 {
-        return FromNumbers::Refused(Refusal::BadDirection);
-    }
-    FromNumbers::Message(function_block_info(c))
-}
-
 fn function_block_name(c: Numbers) -> Message
     requires { ⌜ Fitting K.FunctionBlockName c ⌝ }
     ensures { λ r. ⌜ r ≡ recordOf K.FunctionBlockName (c .packets) (valuesFrom K.FunctionBlockName c) ⌝ }
@@ -116,33 +104,86 @@ fn function_block_name(c: Numbers) -> Message
 }
 
 // The numbers of a kind, each at most its field's largest.
-fn fitting_record(kind: Kind, c: Numbers) -> FromNumbers
+fn fitting_record(kind: Kind, c: Numbers) -> Message
     requires { ⌜ Fitting kind c ⌝ }
-    ensures { λ r. ⌜ r ≡ fromKind kind c ⌝ }
+    ensures { λ r. ⌜ r ≡ recordOf kind (c .packets) (valuesFrom kind c) ⌝ }
 {
     match kind {
-        Kind::EndpointDiscovery => FromNumbers::Message(endpoint_discovery(c)),
-        Kind::EndpointInfo => FromNumbers::Message(endpoint_info(c)),
-        Kind::DeviceIdentity => FromNumbers::Message(device_identity(c)),
-        Kind::EndpointName => FromNumbers::Message(Message::EndpointName(PacketNumber(c.packets))),
-        Kind::ProductInstanceId => {
-            FromNumbers::Message(Message::ProductInstanceId(PacketNumber(c.packets)))
-        }
-        Kind::FunctionBlockInfo => named_choices(c),
-        Kind::FunctionBlockName => FromNumbers::Message(function_block_name(c)),
+        Kind::EndpointDiscovery => endpoint_discovery(c),
+        Kind::EndpointInfo => endpoint_info(c),
+        Kind::DeviceIdentity => device_identity(c),
+        Kind::EndpointName => Message::EndpointName(PacketNumber(c.packets)),
+        Kind::ProductInstanceId => Message::ProductInstanceId(PacketNumber(c.packets)),
+        Kind::FunctionBlockInfo => function_block_info(c),
+        Kind::FunctionBlockName => function_block_name(c),
     }
 }
 
-// Refusals 5, 12, 9 and 10, in this order.
-pub fn record_from(c: Numbers) -> FromNumbers
-    ensures { λ r. ⌜ r ≡ fromNumbers c ⌝ }
+// Whether the numbers name no port 3 and no direction 0, which only a block info can.
+fn choices_named(kind: Kind, c: Numbers) -> bool
+    ensures { λ r. ⌜ r ≡ choicesNamed kind c ⌝ }
+{
+    let Kind::FunctionBlockInfo = kind else {
+        return true;
+    };
+    if c.fourth == 3 {
+        return false;
+    }
+    c.fifth != 0
+}
+
+// Whether numbers of a kind's status are a record: each at most its field's largest, and choices that have a name.
+pub(crate) fn is_record(kind: Kind, c: Numbers) -> bool
+    ensures { λ r. ⌜ r ≡ isRecord kind c ⌝ }
+{
+    if numbers_in_range(kind, c) {
+        return choices_named(kind, c);
+    }
+    false
+}
+
+// Numbers of a kind's status.
+fn own_record(kind: Kind, c: Numbers) -> FromNumbers
+    ensures { λ r. ⌜ r ≡ fromKind kind c ⌝ }
+{
+    if is_record(kind, c) {
+        return FromNumbers::Message(fitting_record(kind, c));
+    }
+    FromNumbers::Refused(Refusal::NumberTooLarge)
+}
+
+// Why numbers of another status than the one wanted are refused.
+pub(crate) fn other_kind(status: u32) -> Refusal
+    ensures { λ r. ⌜ r ≡ otherKind (kindOf status) ⌝ }
+{
+    match kind_of(status) {
+        Known::Is(_) => Refusal::NoSuchField,
+        Known::Unknown => Refusal::UnknownStatus,
+    }
+}
+
+// A record of one kind: refusals 5, 13, 12.
+pub fn record_of(kind: Kind, c: Numbers) -> FromNumbers
+    ensures { λ r. ⌜ r ≡ fromOwn kind c ⌝ }
+{
+    let row = row_of(kind);
+    if c.status != row.status {
+        return FromNumbers::Refused(other_kind(c.status));
+    }
+    own_record(kind, c)
+}
+
+// A record of any fixed kind: refusals 5, 13 for a kind with text, 12.
+pub fn fixed_record(c: Numbers) -> FromNumbers
+    ensures { λ r. ⌜ r ≡ fromFixed c ⌝ }
 {
     match kind_of(c.status) {
         Known::Is(kind) => {
-            if numbers_in_range(kind, c) {
-                return fitting_record(kind, c);
+            let row = row_of(kind);
+            if 1 < row.most_packets {
+                return FromNumbers::Refused(Refusal::NoSuchField);
             }
-            FromNumbers::Refused(Refusal::NumberTooLarge)
+            own_record(kind, c)
         }
         Known::Unknown => FromNumbers::Refused(Refusal::UnknownStatus),
     }

@@ -1,7 +1,6 @@
--- `to_record::fitting_record` meets its contract, by the laws of `Accepted`.
-use mathlib.Core.Path.{refl}
+-- `to_record::fitting_record` meets its contract, kind by kind.
 use Rattle.kinds.specs.declared.kind.Kind.the-variants as K
-use Rattle.numbers.proofs.Accepted.{computed, fitting, told-whole}
+use Rattle.numbers.proofs.Accepted.{computed, fitting}
 use borrow.Author.Needs.{needs}
 use Rattle.numbers.proofs.to_record.fitting_record.Statement.{statement}
 use Rattle.numbers.proofs.to_record.fitting_record.Tie as tie
@@ -19,10 +18,9 @@ fitting-record-spec =
     (λ c κs. fitting K.FunctionBlockInfo (c .enum-told6 .given .1) (c .before .before .pre))
     (λ c. search needs)
     (λ c κs. fitting K.FunctionBlockName (c .enum-told7 .given .1) (c .before .before .pre))
-    (λ c. told-whole K.EndpointDiscovery (c .before .enum-told .given .1) (c .before .before .before .pre) refl refl (c .endpoint-discovery .ensures))
-    (λ c. told-whole K.EndpointInfo (c .before .enum-told2 .given .1) (c .before .before .before .pre) refl refl (c .endpoint-info .ensures))
-    (λ c. told-whole K.DeviceIdentity (c .before .enum-told3 .given .1) (c .before .before .before .pre) refl refl (c .device-identity .ensures))
-    (λ c. told-whole K.EndpointName (c .enum-told4 .given .1) (c .before .before .pre) refl refl refl)
-    (λ c. told-whole K.ProductInstanceId (c .enum-told5 .given .1) (c .before .before .pre) refl refl refl)
-    (λ c. rw (c .before .enum-told6 .given .1) (c .named-choices .ensures))
-    (λ c. told-whole K.FunctionBlockName (c .before .enum-told7 .given .1) (c .before .before .before .pre) refl refl (c .function-block-name .ensures)))
+    (λ c. rw (c .before .enum-told .given .1) (c .endpoint-discovery .ensures))
+    (λ c. rw (c .before .enum-told2 .given .1) (c .endpoint-info .ensures))
+    (λ c. rw (c .before .enum-told3 .given .1) (c .device-identity .ensures))
+    (λ c. rw (c .enum-told4 .given .1)) (λ c. rw (c .enum-told5 .given .1))
+    (λ c. rw (c .before .enum-told6 .given .1) (c .function-block-info .ensures))
+    (λ c. rw (c .before .enum-told7 .given .1) (c .function-block-name .ensures)))

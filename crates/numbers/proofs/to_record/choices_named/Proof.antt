@@ -1,12 +1,12 @@
--- `set_one::choices_named` meets its contract, by the laws of `OneNumber`.
+-- `to_record::choices_named` meets its contract, by the laws of `OneNumber`.
 use mathlib.Core.Path.{refl}
 use borrow.Author.Tests.{eq-eqb, ne-eqb}
 use Rattle.laws.proofs.Pick.{here, past}
 use Rattle.numbers.proofs.Accepted.{computed}
 use Rattle.numbers.proofs.OneNumber.{choiceless}
 use borrow.Author.Needs.{needs}
-use Rattle.numbers.proofs.set_one.choices_named.Statement.{statement}
-use Rattle.numbers.proofs.set_one.choices_named.Tie as tie
+use Rattle.numbers.proofs.to_record.choices_named.Statement.{statement}
+use Rattle.numbers.proofs.to_record.choices_named.Tie as tie
 
 pub choices-named-spec : {M : Type 1} → statement M
 unfolding computed
