@@ -16,12 +16,12 @@ pub port-codes :
     (saidPort (portFromCode 0) ≡ accepted (0 ∷ []))
     × (saidPort (portFromCode 1) ≡ accepted (1 ∷ []))
     × (saidPort (portFromCode 2) ≡ accepted (2 ∷ []))
-    × (saidPort (portFromCode 3) ≡ record { refusal = 9; place = 0; values = [] })
+    × (saidPort (portFromCode 3) ≡ record { refusal = 12; place = 0; values = [] })
     × (saidPort (portFromCode 4) ≡ record { refusal = 12; place = 0; values = [] })
 port-codes = (refl, refl, refl, refl, refl)
 
 pub direction-codes :
-    (saidDirection (directionFromCode 0) ≡ record { refusal = 10; place = 0; values = [] })
+    (saidDirection (directionFromCode 0) ≡ record { refusal = 12; place = 0; values = [] })
     × (saidDirection (directionFromCode 1) ≡ accepted (1 ∷ []))
     × (saidDirection (directionFromCode 2) ≡ accepted (2 ∷ []))
     × (saidDirection (directionFromCode 3) ≡ accepted (3 ∷ []))

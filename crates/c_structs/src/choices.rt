@@ -4,21 +4,20 @@ ghost use Rattle.c_structs.specs.Codes.{hintFromCode, portFromCode, dire
 use kinds::choices::Direction;
 use kinds::choices::Midi1Port;
 use kinds::choices::UiHint;
-use kinds::refusal::Refusal;
 
 pub enum HintFromCode {
     Is(UiHint),
-    Refused(Refusal),
+    NoChoice,
 }
 
 pub enum PortFromCode {
     Is(Midi1Port),
-    Refused(Refusal),
+    NoChoice,
 }
 
 pub enum DirectionFromCode {
     Is(Direction),
-    Refused(Refusal),
+    NoChoice,
 }
 
 pub fn hint_from_code(code: u32) -> HintFromCode
@@ -29,7 +28,7 @@ pub fn hint_from_code(code: u32) -> HintFromCode
         1 => HintFromCode::Is(UiHint::Receiver),
         2 => HintFromCode::Is(UiHint::Sender),
         3 => HintFromCode::Is(UiHint::SenderReceiver),
-        _ => HintFromCode::Refused(Refusal::NumberTooLarge),
+        _ => HintFromCode::NoChoice,
     }
 }
 
@@ -40,8 +39,8 @@ pub fn port_from_code(code: u32) -> PortFromCode
         0 => PortFromCode::Is(Midi1Port::None),
         1 => PortFromCode::Is(Midi1Port::DontRestrictBandwidth),
         2 => PortFromCode::Is(Midi1Port::RestrictBandwidth),
-        3 => PortFromCode::Refused(Refusal::BadPort),
-        _ => PortFromCode::Refused(Refusal::NumberTooLarge),
+        3 => PortFromCode::NoChoice,
+        _ => PortFromCode::NoChoice,
     }
 }
 
@@ -49,10 +48,10 @@ pub fn direction_from_code(code: u32) -> DirectionFromCode
     ensures { λ r. ⌜ r ≡ directionFromCode code ⌝ }
 {
     match code {
-        0 => DirectionFromCode::Refused(Refusal::BadDirection),
+        0 => DirectionFromCode::NoChoice,
         1 => DirectionFromCode::Is(Direction::Input),
         2 => DirectionFromCode::Is(Direction::Output),
         3 => DirectionFromCode::Is(Direction::Bidirectional),
-        _ => DirectionFromCode::Refused(Refusal::NumberTooLarge),
+        _ => DirectionFromCode::NoChoice,
     }
 }

@@ -1,20 +1,23 @@
--- Calls with a code or a record from C: the code or record is checked first, then the call of that name is made.
+-- Calls with a code or a record from C, which may name no choice or be no record.
 use Prim.Native.Nat.{ℕ, _^_}
-use mathlib.Core.List.{List}
+use mathlib.Core.List.{List, [], _∷_}
 use lib.ListN.{length}
-use lib.Dec.{ltb, eqb}
+use lib.Dec.{ltb}
 use Rattle.laws.specs.Pick.{pick}
 use Rattle.counts.specs.Counts.{packet, byte}
 use Rattle.text.specs.declared.TextPlace.{TextPlace}
 use Rattle.kinds.specs.declared.kind.Kind.{Kind}
-use Rattle.kinds.specs.declared.refusal.Refusal.the-variants.{NumberTooLarge, NoSuchField}
-use Rattle.kinds.specs.Fields.{Setting}
-use Rattle.kinds.specs.Layout.{layout}
+use Rattle.kinds.specs.declared.kind.Known.{Known}
+use Rattle.kinds.specs.declared.kind.Known.the-variants.{Is, Unknown}
+use Rattle.kinds.specs.declared.refusal.Refusal.the-variants.{UnknownStatus, NumberTooLarge, NoSuchField}
+use Rattle.kinds.specs.Fields.{Number, Setting}
+use Rattle.kinds.specs.Layout.{layout, kindOf}
 use Rattle.table.specs.Places.{slotAt}
-use Rattle.records.specs.declared.message.Message.{Message}
-use Rattle.records.specs.Records.{kindIn}
-use Rattle.records.specs.Settings.{setRecord}
-use Rattle.standard.specs.Words.{Outcome, unchanged, setOn, writeOn}
+use Rattle.records.specs.Settings.{lacks, setRecord}
+use Rattle.records.specs.declared.answers.Answer.{Answer}
+use Rattle.records.specs.declared.answers.Answer.the-variants as A
+use Rattle.standard.specs.Reading.{readOf}
+use Rattle.standard.specs.Words.{Outcome, unchanged, setOn, freshOn, writeOn}
 use Rattle.numbers.specs.declared.Numbers.{Numbers}
 use Rattle.c_structs.specs.declared.answers.RecordAnswer.{RecordAnswer}
 use Rattle.numbers.specs.declared.to_record.FromNumbers.{FromNumbers}
@@ -25,8 +28,9 @@ use Rattle.c_structs.specs.declared.choices.PortFromCode.{PortFromCode}
 use Rattle.c_structs.specs.declared.choices.PortFromCode.the-variants as P
 use Rattle.c_structs.specs.declared.choices.DirectionFromCode.{DirectionFromCode}
 use Rattle.c_structs.specs.declared.choices.DirectionFromCode.the-variants as D
-use Rattle.c_structs.specs.Crossed.{withNumbers, withRefusal, editedCrossed}
-use Rattle.numbers.specs.FromNumbers.{fromNumbers}
+use Rattle.c_structs.specs.Crossed.{withNumbers, withRefusal, readCrossed, editedCrossed}
+use Rattle.numbers.specs.Numbers.{noNumbers}
+use Rattle.numbers.specs.FromNumbers.{fromKind, fromOwn, fromFixed}
 use Rattle.numbers.specs.SetOne.{withNumber}
 use Rattle.c_structs.specs.Codes.{hintFromCode, portFromCode, directionFromCode}
 
@@ -34,64 +38,72 @@ use Rattle.c_structs.specs.Codes.{hintFromCode, portFromCode, directionFromCode
 abbrev pub placeAt : ℕ → ℕ → TextPlace
 placeAt p b = record { packet = packet p; byte = byte b }
 
--- ---- choices set on words: a code that names none is refused before the words are looked at
+-- a code that names no choice is refused as a number above its field's largest is; block numbers end at 127
+abbrev pub beyond : Setting
+beyond = Setting.number Number.function-block-number 128
+
+-- ---- choices set on words, by code
 abbrev hintSet : HintFromCode → List ℕ → Outcome
 hintSet (H.Is h) ws = setOn (Setting.ui-hint h) ws
-hintSet (H.Refused r) ws = unchanged r ws
+hintSet H.NoChoice ws = setOn beyond ws
 
 abbrev pub hintOn : ℕ → List ℕ → Outcome
 hintOn n ws = hintSet (hintFromCode n) ws
 
 abbrev portSet : PortFromCode → List ℕ → Outcome
 portSet (P.Is p) ws = setOn (Setting.midi1-port p) ws
-portSet (P.Refused r) ws = unchanged r ws
+portSet P.NoChoice ws = setOn beyond ws
 
 abbrev pub portOn : ℕ → List ℕ → Outcome
 portOn n ws = portSet (portFromCode n) ws
 
 abbrev directionSet : DirectionFromCode → List ℕ → Outcome
 directionSet (D.Is d) ws = setOn (Setting.direction d) ws
-directionSet (D.Refused r) ws = unchanged r ws
+directionSet D.NoChoice ws = setOn beyond ws
 
 abbrev pub directionOn : ℕ → List ℕ → Outcome
 directionOn n ws = directionSet (directionFromCode n) ws
 
--- ---- on a record: numbers that are no record are handed back unchanged
-abbrev pub setFrom : FromNumbers → (Message → Setting) → Numbers → RecordAnswer
-setFrom (G.Message m) s c = editedCrossed (setRecord (s m) m .answer) (setRecord (s m) m .message) c
+-- ---- on a record, by the field's name; what is refused is handed back unchanged
+abbrev pub setFrom : FromNumbers → Setting → Numbers → RecordAnswer
+setFrom (G.Message m) s c = editedCrossed (setRecord s m .answer) (setRecord s m .message) c
 setFrom (G.Refused r) s c = withRefusal r c
 
-abbrev pub setIn : (Message → Setting) → Numbers → RecordAnswer
-setIn s c = setFrom (fromNumbers c) s c
+-- refusal 5 for a status of no kind, 13 for a field that the kind lacks, 12 for numbers that are no record; then the setting's own
+abbrev pub setKnown : Known → (Kind → Setting) → Numbers → RecordAnswer
+setKnown Unknown s c = withRefusal UnknownStatus c
+setKnown (Is k) s c = pick (lacks (layout k .fields) (s k)) (withRefusal NoSuchField c) (setFrom (fromKind k c) (s k) c)
 
--- the number in slot i of kind k: 13 where the record is of another kind, 12 where the number is too large
+-- A SETTING ON A RECORD FROM C; a name that two kinds have is a setting for each
+abbrev pub setIn : (Kind → Setting) → Numbers → RecordAnswer
+setIn s c = setKnown (kindOf (c .status)) s c
+
+-- the number in slot i of kind k
 abbrev pub oneFrom : FromNumbers → Kind → ℕ → ℕ → Numbers → RecordAnswer
 oneFrom (G.Message m) k i x c =
-    pick (eqb (layout (kindIn m) .status) (layout k .status))
-    (pick (ltb x (2 ^ slotAt (layout k .fields) i .span)) (withNumbers (withNumber (length (layout k .fields)) i x c)) (withRefusal NumberTooLarge c))
-    (withRefusal NoSuchField c)
+    pick (ltb x (2 ^ slotAt (layout k .fields) i .span)) (withNumbers (withNumber (length (layout k .fields)) i x c)) (withRefusal NumberTooLarge c)
 oneFrom (G.Refused r) k i x c = withRefusal r c
 
 abbrev pub oneIn : Kind → ℕ → ℕ → Numbers → RecordAnswer
-oneIn k i x c = oneFrom (fromNumbers c) k i x c
+oneIn k i x c = oneFrom (fromOwn k c) k i x c
 
 abbrev hintEdit : HintFromCode → Numbers → RecordAnswer
-hintEdit (H.Is h) c = setIn (λ m. Setting.ui-hint h) c
-hintEdit (H.Refused r) c = withRefusal r c
+hintEdit (H.Is h) c = setIn (λ k. Setting.ui-hint h) c
+hintEdit H.NoChoice c = setIn (λ k. beyond) c
 
 abbrev pub hintIn : ℕ → Numbers → RecordAnswer
 hintIn n c = hintEdit (hintFromCode n) c
 
 abbrev portEdit : PortFromCode → Numbers → RecordAnswer
-portEdit (P.Is p) c = setIn (λ m. Setting.midi1-port p) c
-portEdit (P.Refused r) c = withRefusal r c
+portEdit (P.Is p) c = setIn (λ k. Setting.midi1-port p) c
+portEdit P.NoChoice c = setIn (λ k. beyond) c
 
 abbrev pub portIn : ℕ → Numbers → RecordAnswer
 portIn n c = portEdit (portFromCode n) c
 
 abbrev directionEdit : DirectionFromCode → Numbers → RecordAnswer
-directionEdit (D.Is d) c = setIn (λ m. Setting.direction d) c
-directionEdit (D.Refused r) c = withRefusal r c
+directionEdit (D.Is d) c = setIn (λ k. Setting.direction d) c
+directionEdit D.NoChoice c = setIn (λ k. beyond) c
 
 abbrev pub directionIn : ℕ → Numbers → RecordAnswer
 directionIn n c = directionEdit (directionFromCode n) c
@@ -102,4 +114,15 @@ writeFrom (G.Message m) ws = writeOn m ws
 writeFrom (G.Refused r) ws = unchanged r ws
 
 abbrev pub writeIn : Numbers → List ℕ → Outcome
-writeIn c ws = writeFrom (fromNumbers c) ws
+writeIn c ws = writeFrom (fromFixed c) ws
+
+-- ---- THE RECORD OF A FRESH MESSAGE: what is read of one packet made fresh
+abbrev freshSaid : Answer → List ℕ → RecordAnswer
+freshSaid A.Done ws = readCrossed (readOf ws)
+freshSaid (A.Refused r) ws = withRefusal r noNumbers
+
+abbrev freshRead : Outcome → RecordAnswer
+freshRead o = freshSaid (o .answer) (o .words)
+
+abbrev pub freshIn : ℕ → RecordAnswer
+freshIn status = freshRead (freshOn status (0 ∷ 0 ∷ 0 ∷ 0 ∷ []))

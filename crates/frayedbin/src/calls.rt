@@ -7,7 +7,7 @@ ghost use Rattle.standard.specs.Walk.{walkOf};
 ghost use Rattle.standard.specs.Words.{freshOn};
 ghost use Rattle.c_structs.specs.Crossed.{answered, readCrossed, walkCrossed, packetCrossed, sizeCrossed, stepCrossed};
 ghost use Rattle.listing.specs.Listed.{Listed};
-ghost use Rattle.frayedbin.specs.Calls.{placeAt, writeIn};
+ghost use Rattle.frayedbin.specs.Calls.{placeAt, freshIn, writeIn};
 use c_structs::answers::Answered;
 use c_structs::answers::PacketAnswer;
 use c_structs::answers::RecordAnswer;
@@ -24,22 +24,25 @@ use c_structs::answers::of_refusal;
 use c_structs::answers::of_size;
 use c_structs::answers::of_step;
 use c_structs::answers::of_walk_refused;
+use c_structs::answers::refused_record;
 use counts::PacketNumber;
 use counts::TextByteNumber;
 use counts::WordNumber;
 use kinds::kind::Kind;
 use numbers::Numbers;
+use numbers::of_record::no_numbers;
 use numbers::of_record::of_device_identity;
 use numbers::of_record::of_endpoint_discovery;
 use numbers::of_record::of_endpoint_info;
 use numbers::of_record::of_function_block_info;
 use numbers::of_record::of_text;
 use numbers::to_record::FromNumbers;
-use numbers::to_record::record_from;
+use numbers::to_record::fixed_record;
 use reading::by_byte;
 use reading::heads::type_of;
 use reading::message;
 use reading::packet;
+use records::answers::Answer;
 use records::answers::Walked;
 use records::message::Message;
 use text::TextPlace;
@@ -132,12 +135,24 @@ pub extern "C" fn frayedbin_fresh(words: &mut [u32], status: u32) -> Answered
     of_answer(writing::fresh::fresh(words, status))
 }
 
+// A record is started by reading a fresh message of one packet.
+#[no_mangle]
+pub extern "C" fn frayedbin_record_fresh(status: u32) -> RecordAnswer
+    ensures { λ r. ⌜ r ≡ freshIn status ⌝ }
+{
+    let mut words = [0u32; 4];
+    match writing::fresh::fresh(&mut words, status) {
+        Answer::Done => of_read(message::read(&words)),
+        Answer::Refused(refusal) => refused_record(refusal, no_numbers()),
+    }
+}
+
 #[no_mangle]
 pub extern "C" fn frayedbin_write(words: &mut [u32], record: Numbers) -> Answered
     ensures answer { λ r. ⌜ r ≡ answered (writeIn «record» (now (words .entry)) .answer) ⌝ }
     ensures buffer { λ r. ⌜ now (words .exit) ≡ writeIn «record» (now (words .entry)) .words ⌝ }
 {
-    match record_from(record) {
+    match fixed_record(record) {
         FromNumbers::Message(message) => of_answer(writing::write::write(words, message)),
         FromNumbers::Refused(refusal) => of_refusal(refusal),
     }

@@ -10,9 +10,10 @@ use c_structs::answers::RecordAnswer;
 use c_structs::answers::of_answer;
 use c_structs::answers::of_edited;
 use c_structs::answers::refused_record;
+use kinds::kind::Kind;
 use numbers::Numbers;
 use numbers::to_record::FromNumbers;
-use numbers::to_record::record_from;
+use numbers::to_record::record_of;
 use settings::device_identity;
 use table::names::PairName;
 
@@ -74,9 +75,9 @@ pub extern "C" fn frayedbin_record_set_device_manufacturer(
     b: u32,
     c: u32,
 ) -> RecordAnswer
-    ensures { λ r. ⌜ r ≡ setIn (λ m. Setting.device-manufacturer a b c) «record» ⌝ }
+    ensures { λ r. ⌜ r ≡ setIn (λ k. Setting.device-manufacturer a b c) «record» ⌝ }
 {
-    match record_from(record) {
+    match record_of(Kind::DeviceIdentity, record) {
         FromNumbers::Message(message) => of_edited(
             message.set_device_manufacturer(a, b, c),
             record,
@@ -87,9 +88,9 @@ pub extern "C" fn frayedbin_record_set_device_manufacturer(
 
 #[no_mangle]
 pub extern "C" fn frayedbin_record_set_device_family(record: Numbers, family: u32) -> RecordAnswer
-    ensures { λ r. ⌜ r ≡ setIn (λ m. Setting.pair Pair.device-family family) «record» ⌝ }
+    ensures { λ r. ⌜ r ≡ setIn (λ k. Setting.pair Pair.device-family family) «record» ⌝ }
 {
-    match record_from(record) {
+    match record_of(Kind::DeviceIdentity, record) {
         FromNumbers::Message(message) => of_edited(message.set_device_family(family), record),
         FromNumbers::Refused(refusal) => refused_record(refusal, record),
     }
@@ -100,9 +101,9 @@ pub extern "C" fn frayedbin_record_set_device_family_model_number(
     record: Numbers,
     model: u32,
 ) -> RecordAnswer
-    ensures { λ r. ⌜ r ≡ setIn (λ m. Setting.pair Pair.device-family-model-number model) «record» ⌝ }
+    ensures { λ r. ⌜ r ≡ setIn (λ k. Setting.pair Pair.device-family-model-number model) «record» ⌝ }
 {
-    match record_from(record) {
+    match record_of(Kind::DeviceIdentity, record) {
         FromNumbers::Message(message) => of_edited(
             message.set_device_family_model_number(model),
             record,
@@ -119,9 +120,9 @@ pub extern "C" fn frayedbin_record_set_software_version(
     c: u32,
     d: u32,
 ) -> RecordAnswer
-    ensures { λ r. ⌜ r ≡ setIn (λ m. Setting.software-version a b c d) «record» ⌝ }
+    ensures { λ r. ⌜ r ≡ setIn (λ k. Setting.software-version a b c d) «record» ⌝ }
 {
-    match record_from(record) {
+    match record_of(Kind::DeviceIdentity, record) {
         FromNumbers::Message(message) => of_edited(
             message.set_software_version(a, b, c, d),
             record,

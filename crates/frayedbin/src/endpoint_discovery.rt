@@ -95,7 +95,7 @@ pub extern "C" fn frayedbin_record_set_request_endpoint_info(
     record: Numbers,
     on: bool,
 ) -> RecordAnswer
-    ensures { λ r. ⌜ r ≡ setIn (λ m. Setting.flag Flag.request-endpoint-info on) «record» ⌝ }
+    ensures { λ r. ⌜ r ≡ setIn (λ k. Setting.flag Flag.request-endpoint-info on) «record» ⌝ }
 {
     named::flag_in(record, FlagName::RequestEndpointInfo, on)
 }
@@ -105,7 +105,7 @@ pub extern "C" fn frayedbin_record_set_request_device_identity(
     record: Numbers,
     on: bool,
 ) -> RecordAnswer
-    ensures { λ r. ⌜ r ≡ setIn (λ m. Setting.flag Flag.request-device-identity on) «record» ⌝ }
+    ensures { λ r. ⌜ r ≡ setIn (λ k. Setting.flag Flag.request-device-identity on) «record» ⌝ }
 {
     named::flag_in(record, FlagName::RequestDeviceIdentity, on)
 }
@@ -115,7 +115,7 @@ pub extern "C" fn frayedbin_record_set_request_endpoint_name(
     record: Numbers,
     on: bool,
 ) -> RecordAnswer
-    ensures { λ r. ⌜ r ≡ setIn (λ m. Setting.flag Flag.request-endpoint-name on) «record» ⌝ }
+    ensures { λ r. ⌜ r ≡ setIn (λ k. Setting.flag Flag.request-endpoint-name on) «record» ⌝ }
 {
     named::flag_in(record, FlagName::RequestEndpointName, on)
 }
@@ -125,7 +125,7 @@ pub extern "C" fn frayedbin_record_set_request_product_instance_id(
     record: Numbers,
     on: bool,
 ) -> RecordAnswer
-    ensures { λ r. ⌜ r ≡ setIn (λ m. Setting.flag Flag.request-product-instance-id on) «record» ⌝ }
+    ensures { λ r. ⌜ r ≡ setIn (λ k. Setting.flag Flag.request-product-instance-id on) «record» ⌝ }
 {
     named::flag_in(record, FlagName::RequestProductInstanceId, on)
 }
@@ -135,7 +135,7 @@ pub extern "C" fn frayedbin_record_set_request_stream_configuration(
     record: Numbers,
     on: bool,
 ) -> RecordAnswer
-    ensures { λ r. ⌜ r ≡ setIn (λ m. Setting.flag Flag.request-stream-configuration on) «record» ⌝ }
+    ensures { λ r. ⌜ r ≡ setIn (λ k. Setting.flag Flag.request-stream-configuration on) «record» ⌝ }
 {
     named::flag_in(record, FlagName::RequestStreamConfiguration, on)
 }

@@ -106,7 +106,7 @@ pub extern "C" fn frayedbin_record_set_static_function_blocks(
     record: Numbers,
     on: bool,
 ) -> RecordAnswer
-    ensures { λ r. ⌜ r ≡ setIn (λ m. Setting.flag Flag.static-function-blocks on) «record» ⌝ }
+    ensures { λ r. ⌜ r ≡ setIn (λ k. Setting.flag Flag.static-function-blocks on) «record» ⌝ }
 {
     named::flag_in(record, FlagName::StaticFunctionBlocks, on)
 }
@@ -116,7 +116,7 @@ pub extern "C" fn frayedbin_record_set_supports_midi2_protocol(
     record: Numbers,
     on: bool,
 ) -> RecordAnswer
-    ensures { λ r. ⌜ r ≡ setIn (λ m. Setting.flag Flag.supports-midi2-protocol on) «record» ⌝ }
+    ensures { λ r. ⌜ r ≡ setIn (λ k. Setting.flag Flag.supports-midi2-protocol on) «record» ⌝ }
 {
     named::flag_in(record, FlagName::SupportsMidi2Protocol, on)
 }
@@ -126,7 +126,7 @@ pub extern "C" fn frayedbin_record_set_supports_midi1_protocol(
     record: Numbers,
     on: bool,
 ) -> RecordAnswer
-    ensures { λ r. ⌜ r ≡ setIn (λ m. Setting.flag Flag.supports-midi1-protocol on) «record» ⌝ }
+    ensures { λ r. ⌜ r ≡ setIn (λ k. Setting.flag Flag.supports-midi1-protocol on) «record» ⌝ }
 {
     named::flag_in(record, FlagName::SupportsMidi1Protocol, on)
 }
@@ -136,7 +136,7 @@ pub extern "C" fn frayedbin_record_set_supports_receiving_jr_timestamps(
     record: Numbers,
     on: bool,
 ) -> RecordAnswer
-    ensures { λ r. ⌜ r ≡ setIn (λ m. Setting.flag Flag.supports-receiving-jr-timestamps on) «record» ⌝ }
+    ensures { λ r. ⌜ r ≡ setIn (λ k. Setting.flag Flag.supports-receiving-jr-timestamps on) «record» ⌝ }
 {
     named::flag_in(record, FlagName::SupportsReceivingJrTimestamps, on)
 }
@@ -146,7 +146,7 @@ pub extern "C" fn frayedbin_record_set_supports_sending_jr_timestamps(
     record: Numbers,
     on: bool,
 ) -> RecordAnswer
-    ensures { λ r. ⌜ r ≡ setIn (λ m. Setting.flag Flag.supports-sending-jr-timestamps on) «record» ⌝ }
+    ensures { λ r. ⌜ r ≡ setIn (λ k. Setting.flag Flag.supports-sending-jr-timestamps on) «record» ⌝ }
 {
     named::flag_in(record, FlagName::SupportsSendingJrTimestamps, on)
 }
@@ -156,7 +156,7 @@ pub extern "C" fn frayedbin_record_set_number_of_function_blocks(
     record: Numbers,
     number: u32,
 ) -> RecordAnswer
-    ensures { λ r. ⌜ r ≡ setIn (λ m. Setting.number Number.number-of-function-blocks number) «record» ⌝ }
+    ensures { λ r. ⌜ r ≡ setIn (λ k. Setting.number Number.number-of-function-blocks number) «record» ⌝ }
 {
     named::number_in(record, NumberName::NumberOfFunctionBlocks, number)
 }

@@ -9,9 +9,10 @@ use c_structs::answers::RecordAnswer;
 use c_structs::answers::of_answer;
 use c_structs::answers::of_edited;
 use c_structs::answers::refused_record;
+use kinds::kind::Kind;
 use numbers::Numbers;
 use numbers::to_record::FromNumbers;
-use numbers::to_record::record_from;
+use numbers::to_record::record_of;
 use text_settings::function_block_name;
 
 #[no_mangle]
@@ -37,9 +38,9 @@ pub extern "C" fn frayedbin_function_block_name_set_name(words: &mut [u32], name
 
 #[no_mangle]
 pub extern "C" fn frayedbin_record_set_function_block(record: Numbers, number: u32) -> RecordAnswer
-    ensures { λ r. ⌜ r ≡ setIn (λ m. Setting.number Number.function-block number) «record» ⌝ }
+    ensures { λ r. ⌜ r ≡ setIn (λ k. Setting.number Number.function-block number) «record» ⌝ }
 {
-    match record_from(record) {
+    match record_of(Kind::FunctionBlockName, record) {
         FromNumbers::Message(message) => of_edited(message.set_function_block(number), record),
         FromNumbers::Refused(refusal) => refused_record(refusal, record),
     }

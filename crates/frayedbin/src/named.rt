@@ -17,10 +17,9 @@ use fields::too_large;
 use kinds::kind::Kind;
 use kinds::refusal::Refusal;
 use numbers::Numbers;
-use numbers::set_one::is_record_of;
+use numbers::set_one::check_record;
 use numbers::set_one::with_number;
-use numbers::to_record::FromNumbers;
-use numbers::to_record::record_from;
+use records::answers::Answer;
 use settings::named::set_flag;
 use settings::named::set_number;
 use settings::named::set_pair;
@@ -53,7 +52,7 @@ pub(crate) fn pair_on(words: &mut [u32], pair: PairName, x: u32) -> Answered
     of_answer(set_pair(words, pair, x))
 }
 
-// One number of a record. Fast path: numbers that are a record of the kind; `record_from` says why others are refused.
+// One number of a record, set among its numbers with no record made.
 fn one_in(
     record: Numbers,
     kind: Kind,
@@ -65,21 +64,20 @@ fn one_in(
     requires { ⌜ (slots ≡ length (layout kind .fields)) × (width ≡ slotAt (layout kind .fields) slot .span) ⌝ }
     ensures { λ r. ⌜ r ≡ oneIn kind slot x «record» ⌝ }
 {
-    if is_record_of(kind, record) {
-        if too_large(width, x) {
-            return refused_record(Refusal::NumberTooLarge, record);
+    match check_record(kind, record) {
+        Answer::Done => {
+            if too_large(width, x) {
+                return refused_record(Refusal::NumberTooLarge, record);
+            }
+            of_numbers(with_number(record, slots, slot, x))
         }
-        return of_numbers(with_number(record, slots, slot, x));
-    }
-    match record_from(record) {
-        FromNumbers::Message(_) => refused_record(Refusal::NoSuchField, record),
-        FromNumbers::Refused(refusal) => refused_record(refusal, record),
+        Answer::Refused(refusal) => refused_record(refusal, record),
     }
 }
 
 // Row and place are looked up here, where the compiler knows the name.
 pub(crate) fn flag_in(record: Numbers, flag: FlagName, on: bool) -> RecordAnswer
-    ensures { λ r. ⌜ r ≡ setIn (λ m. Setting.flag (flagNamed flag) on) «record» ⌝ }
+    ensures { λ r. ⌜ r ≡ setIn (λ k. Setting.flag (flagNamed flag) on) «record» ⌝ }
 {
     let at = flag_at(flag);
     let kind = at.0;
@@ -90,7 +88,7 @@ pub(crate) fn flag_in(record: Numbers, flag: FlagName, on: bool) -> RecordAnswer
 }
 
 pub(crate) fn number_in(record: Numbers, number: NumberName, x: u32) -> RecordAnswer
-    ensures { λ r. ⌜ r ≡ setIn (λ m. Setting.number (numberNamed number) x) «record» ⌝ }
+    ensures { λ r. ⌜ r ≡ setIn (λ k. Setting.number (numberNamed number) x) «record» ⌝ }
 {
     let at = number_at(number);
     let kind = at.0;

@@ -1,15 +1,11 @@
-// Settings on a record under names that several kinds have. A record has no text: a text is refused.
+// Settings on a record under names that two kinds have: of status 0x00 the discovery's, else the endpoint info's.
 ghost use mathlib.Core.Path.{_≡_};
-ghost use Rattle.kinds.specs.Fields.{Text, Setting};
-ghost use Rattle.records.specs.Records.{kindIn};
-ghost use Rattle.records.specs.Settings.{majorOf, minorOf, nameOf};
+ghost use Rattle.kinds.specs.Fields.{Setting};
+ghost use Rattle.records.specs.Settings.{majorOf, minorOf};
 ghost use Rattle.frayedbin.specs.Calls.{setIn};
+use crate::named;
 use c_structs::answers::RecordAnswer;
-use c_structs::answers::of_edited;
-use c_structs::answers::refused_record;
 use numbers::Numbers;
-use numbers::to_record::FromNumbers;
-use numbers::to_record::record_from;
 use table::names::NumberName;
 
 #[no_mangle]
@@ -17,12 +13,12 @@ pub extern "C" fn frayedbin_record_set_ump_version_major(
     record: Numbers,
     version: u32,
 ) -> RecordAnswer
-    ensures { λ r. ⌜ r ≡ setIn (λ m. Setting.number (majorOf (kindIn m)) version) «record» ⌝ }
+    ensures { λ r. ⌜ r ≡ setIn (λ k. Setting.number (majorOf k) version) «record» ⌝ }
 {
-    match record_from(record) {
-        FromNumbers::Message(message) => of_edited(message.set_ump_version_major(version), record),
-        FromNumbers::Refused(refusal) => refused_record(refusal, record),
+    if record.status == 0 {
+        return named::number_in(record, NumberName::DiscoveryVersionMajor, version);
     }
+    named::number_in(record, NumberName::InfoVersionMajor, version)
 }
 
 #[no_mangle]
@@ -30,30 +26,10 @@ pub extern "C" fn frayedbin_record_set_ump_version_minor(
     record: Numbers,
     version: u32,
 ) -> RecordAnswer
-    ensures { λ r. ⌜ r ≡ setIn (λ m. Setting.number (minorOf (kindIn m)) version) «record» ⌝ }
+    ensures { λ r. ⌜ r ≡ setIn (λ k. Setting.number (minorOf k) version) «record» ⌝ }
 {
-    match record_from(record) {
-        FromNumbers::Message(message) => of_edited(message.set_ump_version_minor(version), record),
-        FromNumbers::Refused(refusal) => refused_record(refusal, record),
+    if record.status == 0 {
+        return named::number_in(record, NumberName::DiscoveryVersionMinor, version);
     }
-}
-
-#[no_mangle]
-pub extern "C" fn frayedbin_record_set_name(record: Numbers, name: &[u8]) -> RecordAnswer
-    ensures { λ r. ⌜ r ≡ setIn (λ m. Setting.text (nameOf (kindIn m)) (now (name .entry))) «record» ⌝ }
-{
-    match record_from(record) {
-        FromNumbers::Message(message) => of_edited(message.set_name(name), record),
-        FromNumbers::Refused(refusal) => refused_record(refusal, record),
-    }
-}
-
-#[no_mangle]
-pub extern "C" fn frayedbin_record_set_id(record: Numbers, id: &[u8]) -> RecordAnswer
-    ensures { λ r. ⌜ r ≡ setIn (λ m. Setting.text Text.product-instance-id (now (id .entry))) «record» ⌝ }
-{
-    match record_from(record) {
-        FromNumbers::Message(message) => of_edited(message.set_id(id), record),
-        FromNumbers::Refused(refusal) => refused_record(refusal, record),
-    }
+    named::number_in(record, NumberName::InfoVersionMinor, version)
 }

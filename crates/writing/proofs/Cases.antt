@@ -13,12 +13,13 @@ use Rattle.kinds.proofs.Rows.{row-right}
 use Rattle.text.specs.Written.{blank}
 use Rattle.kinds.specs.declared.kind.Kind.{Kind}
 use Rattle.kinds.specs.declared.refusal.Refusal.the-variants.{NumberTooLarge, NoSuchField, NoRoom}
-use Rattle.kinds.specs.Layout.{Body, fixed, texts, layout, mostIn, hasText, parts}
+use Rattle.kinds.specs.Layout.{Body, fixed, texts, layout, hasText, parts}
 use Rattle.table.specs.declared.rows.Row.{Row}
 use Rattle.table.specs.Rows.{RowIs, tableRow}
 use Rattle.numbers.specs.declared.Numbers.{Numbers}
 use Rattle.numbers.specs.Numbers.{asNumbers}
 use Rattle.numbers.specs.FromNumbers.{valuesFrom}
+use Rattle.numbers.proofs.Accepted.{text-row}
 use Rattle.numbers.proofs.Back.{own-fits, own-puts}
 use Rattle.records.specs.declared.message.Message.{Message}
 use Rattle.records.specs.declared.answers.Answer.the-variants as A
@@ -32,11 +33,6 @@ use Rattle.writing.specs.Put.{putRecord}
 pub write-text : (m : Message) (ws : List ℕ) → hasText (layout (kindIn m) .body) ≡ true → writeOn m ws ≡ unchanged NoSuchField ws
 unfolding writeOn
 write-text m ws t = rw t
-
--- a kind without text is one packet
-pub text-most : (b : Body) → ltb 1 (mostIn b) ≡ hasText b
-text-most fixed = refl
-text-most (texts t from) = refl
 
 -- a fixed kind, each of whose slots lies within a word
 pub record Fixed (m : Message) : Type 0 where
@@ -74,7 +70,7 @@ unfolding putRecord
 put-told m ws ek ec eh = rw (eh, head-is, ek, ec) (own-puts m _)
 
 pub text-told : (m : Message) {k : Kind} {r : Row} → k ≡ kindIn m → RowIs (tableRow k) r → ltb 1 (r .«most_packets») ≡ hasText (layout (kindIn m) .body)
-text-told m ek s = rw (s .most, ek) (text-most (layout (kindIn m) .body))
+text-told m ek s = rw ek at (text-row _ s)
 
 pub fits-told : (m : Message) {k : Kind} {c : Numbers} {a b : Bool} → k ≡ kindIn m → c ≡ asNumbers m → a ≡ fits (layout k .fields) (parts (valuesFrom k c)) → a ≡ b → fits (layout (kindIn m) .fields) (parts (valuesOf m)) ≡ b
 fits-told m ek ec ea q = sym (own-fits m) ∙ rw (ek, ec) at (sym ea) ∙ q

@@ -5,10 +5,10 @@ use Rattle.frayedbin.proofs.calls.frayedbin_write.Statement.{statement}
 use Rattle.frayedbin.proofs.calls.frayedbin_write.Tie as tie
 
 returns : tie.Need-returns
-returns c = rw (← c .before .before .before .before .before .before .before .before .record-from .ensures, c .before .before .before .before .before .before .message .given .1) (rw (c .of-answer .ensures, c .before .before .before .write .ensures .0), c .before .before .before .write .ensures .1)
+returns c = rw (← c .before .before .before .before .before .before .before .before .fixed-record .ensures, c .before .before .before .before .before .before .message .given .1) (rw (c .of-answer .ensures, c .before .before .before .write .ensures .0), c .before .before .before .write .ensures .1)
 
 returns-2 : tie.Need-returns-2
-returns-2 c = rw (← c .before .before .before .before .record-from .ensures, c .before .before .refusal .given .1) (c .of-refusal .ensures, refl)
+returns-2 c = rw (← c .before .before .before .before .fixed-record .ensures, c .before .before .refusal .given .1) (c .of-refusal .ensures, refl)
 
 pub frayedbin-write-spec : {M : Type 1} → statement M
 frayedbin-write-spec =
