@@ -15,7 +15,7 @@ use Rattle.ascii_lines.proofs.Room.{place-in-bounds}
 use Rattle.sentences.specs.Strings.{asString}
 
 -- ---- a text put at the start of a buffer: as much of it as there is room for
-abbrev held : List ℕ → List ℕ → List ℕ
+abbrev pub held : List ℕ → List ℕ → List ℕ
 held text out = take (length out) text
 
 held-fits : (text out : List ℕ) → length (held text out) ≤ length out
@@ -45,7 +45,7 @@ started {text} {out} w =
     }
 
 -- the bytes after the zero, said by the text and by what is held of it
-after-zero : (text out : List ℕ) → drop (length (held text out)) out ≡ drop (length text) out
+pub after-zero : (text out : List ℕ) → drop (length (held text out)) out ≡ drop (length text) out
 after-zero text out =
     ⊎-elim (λ (h : length out < length text). rw (length-take-le (length out) text (omega arith), drop-length, drop-of-length-le out {i = length text} (omega arith)))
     (λ (h : length text ≤ length out). rw (take-all (length out) text h))

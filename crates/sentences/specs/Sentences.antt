@@ -42,7 +42,7 @@ kindName K.ProductInstanceId = ascii "product-instance-id"
 kindName K.FunctionBlockInfo = ascii "function-block-info"
 kindName K.FunctionBlockName = ascii "function-block-name"
 
-abbrev knownName : Known → List ℕ
+abbrev pub knownName : Known → List ℕ
 knownName (Is kind) = kindName kind
 knownName Unknown = []
 
