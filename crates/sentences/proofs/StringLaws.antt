@@ -24,16 +24,16 @@ module _ (text : List ℕ) (byte : ℕ) (out : List ℕ) where
 
   in-some : StringIn text (byte ∷ out) (asString text (byte ∷ out))
   in-some =
-    record {
-      size = rw (length-append, length-drop, length-take) (omega arith);
-      whole = λ h.
-        rw (take-all (length out) text (omega arith), ← append-snoc text 0 (drop (length text) out))
-        (take-at (text ++ 0 ∷ []) (drop (length text) out) (length text + 1) (length-append text (0 ∷ [])));
-      cut = λ h l. let e : length (byte ∷ out) - 1 ≡ length out = omega arith in rw (e, drop-of-length-le out {i = length text} (omega arith));
-      inside = λ h. omega arith;
-      zero = λ h. getD-at (take (length out) text) 0 (drop (length text) out) 1 _ (sym zero-is);
-      after = after-is _ zero-is;
-    }
+      record {
+        size = rw (length-append, length-drop, length-take) (omega arith);
+        whole = λ h.
+            rw (take-all (length out) text (omega arith), ← append-snoc text 0 (drop (length text) out))
+            (take-at (text ++ 0 ∷ []) (drop (length text) out) (length text + 1) (length-append text (0 ∷ [])));
+        cut = λ h l. let e : length (byte ∷ out) - 1 ≡ length out = omega arith in rw (e, drop-of-length-le out {i = length text} (omega arith));
+        inside = λ h. omega arith;
+        zero = λ h. getD-at (take (length out) text) 0 (drop (length text) out) 1 _ (sym zero-is);
+        after = after-is _ zero-is;
+      }
 
 -- A STRING IN ANY BUFFER
 pub string-in : (text out : List ℕ) → StringIn text out (asString text out)

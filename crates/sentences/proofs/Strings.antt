@@ -61,14 +61,14 @@ front-length byte out = length-take-le (length out) (byte ∷ out) (omega arith)
 module _ {text p : List ℕ} {j : ℕ} (byte : ℕ) (out : List ℕ) (w : Wrote 0 (front byte out) text j p) where
   joined : p ++ drop (length out) (byte ∷ out) ≡ held text (front byte out) ++ drop (length (held text (front byte out))) (byte ∷ out)
   joined =
-    let q = front byte out in
-    rw (started w .bytes, append-assoc, ← drop-append-le (length (held text q)) q (drop (length out) (byte ∷ out)) (held-fits text q), take-append-drop)
+      let q = front byte out in
+      rw (started w .bytes, append-assoc, ← drop-append-le (length (held text q)) q (drop (length out) (byte ∷ out)) (held-fits text q), take-append-drop)
 
   string-written : set (p ++ drop (length out) (byte ∷ out)) j 0 ≡ asString text (byte ∷ out)
   string-written =
-    let q = front byte out in
-    let l : length (held text q) < length (byte ∷ out) = omega (arith, held-fits text q, front-length byte out) in
-    rw (joined, drop-cons (byte ∷ out) (length (held text q)) 0 l, set-at (held text q) _ _ 0 j (sym (started w .next)), front-length byte out, after-zero text out)
+      let q = front byte out in
+      let l : length (held text q) < length (byte ∷ out) = omega (arith, held-fits text q, front-length byte out) in
+      rw (joined, drop-cons (byte ∷ out) (length (held text q)) 0 l, set-at (held text q) _ _ 0 j (sym (started w .next)), front-length byte out, after-zero text out)
 
 -- the same of any buffer with a byte
 module _ {text p : List ℕ} {j : ℕ} (out : List ℕ) (w : Wrote 0 (take (length out - 1) out) text j p) (some : 0 < length out) where

@@ -38,7 +38,10 @@ pub fn refusal_text(number: u32, out: &mut [u8]) -> usize
         9 => put_string(out, b"the MIDI 1.0 port is 3"),
         10 => put_string(out, b"the direction is 0"),
         11 => put_string(out, b"the text is not UTF-8"),
-        12 => put_string(out, b"a number is above its field's largest, or a code names no choice"),
+        12 => put_string(
+            out,
+            b"a number is above its field's largest, or a code names no choice",
+        ),
         13 => put_string(out, b"this kind has no such field"),
         14 => put_string(out, b"there is too little room"),
         _ => put_string(out, b""),
