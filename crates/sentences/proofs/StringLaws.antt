@@ -1,20 +1,20 @@
 -- What `asString` leaves, part by part, and what C reads back. By cases on the buffer, and by induction on the text.
-use Prim.Native.Nat.{ℕ, zero, suc, _+_, _-_, _<_, _≤_, min}
-use mathlib.Core.Path.{_≡_, refl, sym, ap, _∙_}
+use Prim.Native.Nat.{ℕ, zero, suc, _+_, _-_, _≤_}
+use mathlib.Core.Path.{_≡_, refl, sym, ap}
 use mathlib.Core.Bool.{true}
 use mathlib.Core.List.{List, [], _∷_, _++_}
 use native.Mathlib.Omega.{arith}
 use native.Mathlib.Numerals.{add-one}
-use lib.ListN.{length, getD, take, drop, length-take, length-append, length-drop, drop-of-length-le}
+use lib.ListN.{length, take, drop, length-take, length-append, length-drop, drop-of-length-le}
 use lib.Seq.{append-snoc, take-all, take-at, drop-at, getD-at}
-use lib.Dec.{eqb, leb}
+use lib.Dec.{leb}
 use borrow.Author.Tests.{leb-true, ne-eqb}
 use Rattle.laws.specs.Pick.{both}
 use Rattle.laws.proofs.Pick.{both-left, both-right}
 use Rattle.sentences.specs.Strings.{asString, zeroAt, StringIn, cText, printable}
 use Rattle.sentences.proofs.Strings.{after-zero}
 
--- ---- the parts
+-- ---- the parts, in a buffer with a byte
 module _ (text : List ℕ) (byte : ℕ) (out : List ℕ) where
   zero-is : zeroAt text (byte ∷ out) ≡ length (take (length out) text)
   zero-is = rw length-take (omega arith)
@@ -35,7 +35,7 @@ module _ (text : List ℕ) (byte : ℕ) (out : List ℕ) where
         after = after-is _ zero-is;
       }
 
--- A STRING IN ANY BUFFER
+-- EVERY PART OF A STRING is where it should be, in any buffer
 pub string-in : (text out : List ℕ) → StringIn text out (asString text out)
 string-in text [] = record { size = refl; whole = λ h. absurd (omega arith); cut = λ h. absurd (omega arith); inside = λ h. absurd (omega arith); zero = λ h. absurd (omega arith); after = refl }
 string-in text (byte ∷ out) = in-some text byte out

@@ -1,14 +1,14 @@
 -- A text put into all but the last byte of a buffer, and a zero after it, are a C string.
-use Prim.Native.Nat.{ℕ, suc, _+_, _-_, _<_, _≤_}
+use Prim.Native.Nat.{ℕ, _-_, _<_, _≤_}
 use mathlib.Core.Path.{_≡_, refl, sym, ap, _∙_}
 use mathlib.Core.Logic.{⊎-elim}
 use mathlib.Core.List.{List, [], _∷_, _++_, append-assoc}
 use native.Mathlib.Omega.{arith}
 use native.Mathlib.Nat.{zero-add}
-use lib.ListN.{length, getD, set, take, drop, length-take, length-append, length-drop, take-append-drop, drop-of-length-le}
+use lib.ListN.{length, set, take, drop, length-take, length-append, length-drop, take-append-drop, drop-of-length-le}
 use lib.Seq.{sets, length-sets, sets-eq, take-all, drop-cons, drop-append-le, drop-length, length-take-le, set-at}
 use Rattle.laws.proofs.Pick.{below}
-use Rattle.ascii_lines.specs.Page.{Page, page, Wrote}
+use Rattle.ascii_lines.specs.Page.{Page, Wrote}
 use Rattle.ascii_lines.proofs.Page.{_⨾_, nothing, says, same-outcome}
 use Rattle.ascii_lines.proofs.FromLast.{stayed, whole}
 use Rattle.ascii_lines.proofs.Room.{place-in-bounds}

@@ -9,7 +9,7 @@ use Rattle.kinds.specs.declared.kind.Known.the-variants.{Is, Unknown}
 use Rattle.kinds.specs.Layout.{kindOf}
 use Rattle.ascii_lines.specs.Ascii.{ascii}
 
--- by number from 0 on, which is no refusal
+-- by number; 0 is no refusal
 unfoldable pub sentences : List (List ℕ)
 sentences =
     ascii "done"
