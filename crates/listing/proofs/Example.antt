@@ -17,7 +17,7 @@ use Rattle.standard.specs.Walk.{sizeOf, stepOf, framePacket, frameFrom, frameOf
 use Rattle.walking.specs.Visits.{visits}
 use Rattle.ascii_lines.specs.Ascii.{ascii}
 use Rattle.ascii_lines.specs.Numbers.{decimalIn, decimal, hexOrDash}
-use Rattle.listing.specs.Lines.{kindName}
+use Rattle.sentences.specs.Sentences.{kindName}
 use Rattle.listing.specs.Listing.{wordsOf, listingOf}
 use Rattle.listing.specs.Told.{octets}
 

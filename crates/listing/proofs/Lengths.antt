@@ -27,7 +27,8 @@ use Rattle.records.specs.Records.{packetsIn, fieldsIn, lookup, firstPart}
 use Rattle.standard.specs.Formed.{Formed}
 use Rattle.ascii_lines.specs.Numbers.{decimal, hexOrDash}
 use Rattle.ascii_lines.proofs.Room.{decimal-length, hex-or-dash-length}
-use Rattle.listing.specs.Lines.{kindName, messageShown}
+use Rattle.sentences.specs.Sentences.{kindName}
+use Rattle.listing.specs.Lines.{messageShown}
 use Rattle.listing.proofs.Numbers.{fixed-shown}
 
 -- ---- digits

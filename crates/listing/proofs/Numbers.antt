@@ -17,7 +17,8 @@ use Rattle.numbers.specs.Numbers.{asNumbers, nine}
 use Rattle.numbers.proofs.Back.{nine-taken}
 use Rattle.ascii_lines.specs.Ascii.{ascii}
 use Rattle.ascii_lines.specs.Numbers.{numbers, hexOrDash}
-use Rattle.listing.specs.Lines.{kindName, textShown, tenOf, messageShown}
+use Rattle.sentences.specs.Sentences.{kindName}
+use Rattle.listing.specs.Lines.{textShown, tenOf, messageShown}
 
 no-text-shown : (b : Body) (n : ℕ) (ws : List ℕ) → hasText b ≡ false → textShown b n ws ≡ []
 no-text-shown fixed n ws t = refl

@@ -21,7 +21,8 @@ use Rattle.standard.specs.Walk.{sizeOf, stepOf, framePacket, frameFrom, frameOf
 use Rattle.walking.specs.Visits.{visits}
 use Rattle.ascii_lines.specs.Ascii.{ascii}
 use Rattle.ascii_lines.specs.Numbers.{decimalIn, decimal, hexOrDash}
-use Rattle.listing.specs.Lines.{kindName, endLine}
+use Rattle.sentences.specs.Sentences.{kindName}
+use Rattle.listing.specs.Lines.{endLine}
 use Rattle.listing.specs.Listing.{wordsOf, linesOf, listingOf}
 use Rattle.listing.specs.Told.{ToldListing}
 use Rattle.listing.proofs.Room.{too-long}

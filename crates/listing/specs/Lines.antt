@@ -3,8 +3,6 @@ use Prim.Native.Nat.{ℕ}
 use mathlib.Core.List.{List, [], _∷_, _++_}
 use Rattle.counts.specs.declared.WordNumber.{WordNumber}
 use Rattle.text.specs.Bytes.{textOf}
-use Rattle.kinds.specs.declared.kind.Kind.{Kind}
-use Rattle.kinds.specs.declared.kind.Kind.the-variants as K
 use Rattle.kinds.specs.declared.refusal.Refusal.{Refusal}
 use Rattle.records.specs.declared.message.Message.{Message}
 use Rattle.records.specs.declared.answers.Read.{Read}
@@ -19,15 +17,7 @@ use Rattle.numbers.specs.declared.Numbers.{Numbers}
 use Rattle.numbers.specs.Numbers.{asNumbers}
 use Rattle.ascii_lines.specs.Ascii.{ascii}
 use Rattle.ascii_lines.specs.Numbers.{decimal, numbers, hexOrDash}
-
-unfoldable pub kindName : Kind → List ℕ
-kindName K.EndpointDiscovery = ascii "endpoint-discovery"
-kindName K.EndpointInfo = ascii "endpoint-info"
-kindName K.DeviceIdentity = ascii "device-identity"
-kindName K.EndpointName = ascii "endpoint-name"
-kindName K.ProductInstanceId = ascii "product-instance-id"
-kindName K.FunctionBlockInfo = ascii "function-block-info"
-kindName K.FunctionBlockName = ascii "function-block-name"
+use Rattle.sentences.specs.Sentences.{kindName}
 
 -- the text of n packets, of a kind that has one
 abbrev pub textShown : Body → ℕ → List ℕ → List ℕ

@@ -6,7 +6,7 @@ use Rattle.kinds.specs.Fields.{same, decided}
 use Rattle.kinds.specs.Layout.{layout}
 use Rattle.records.specs.Records.{fieldsIn, lookup, firstPart}
 use Rattle.ascii_lines.proofs.Page.{says}
-use Rattle.listing.specs.Lines.{kindName}
+use Rattle.sentences.specs.Sentences.{kindName}
 use Rattle.listing.proofs.Numbers.{fixed-shown, name-shown, product-shown, block-name-shown}
 use borrow.Author.Needs.{needs}
 use Rattle.listing.proofs.messages.put_message.Statement.{statement}
