@@ -1,70 +1,15 @@
+-- `named::one_in` meets its contract, by the laws of `OneNumber`.
+use mathlib.Core.Path.{sym, _∙_}
+use Rattle.frayedbin.proofs.OneNumber.{in-refused, in-large, in-done}
 use borrow.Author.Needs.{needs}
 use Rattle.frayedbin.proofs.named.one_in.Statement.{statement}
 use Rattle.frayedbin.proofs.named.one_in.Tie as tie
-use Rattle.frayedbin.proofs.named.one_in.Reads as reads
-use Rattle.frayedbin.proofs.named.one_in.Lts as lts
-use Rattle.c_structs.proofs.answers.of_numbers.Reads as of-numbers-reads
-use Rattle.c_structs.proofs.answers.refused_record.Reads as refused-record-reads
-use Rattle.fields.proofs.too_large.Reads as too-large-reads
-use Rattle.numbers.proofs.set_one.check_record.Reads as check-record-reads
-use Rattle.numbers.proofs.set_one.with_number.Reads as with-number-reads
-
--- src/named.rt:67:11
-check-record-requires : tie.Need-check-record-requires
-check-record-requires c κs = search needs
-
--- src/named.rt:69:16
-enum-told : tie.Need-enum-told
-enum-told c = search needs
-
--- src/named.rt:69:16
-too-large-requires : tie.Need-too-large-requires
-too-large-requires c κs = search needs
-
--- src/named.rt:70:17
-refused-record-requires : tie.Need-refused-record-requires
-refused-record-requires c κs = search needs
-
--- src/named.rt:70:17
-returns : tie.Need-returns
-returns c = ?
-
--- src/named.rt:72:24
-with-number-requires : tie.Need-with-number-requires
-with-number-requires c κs = search needs
-
--- src/named.rt:72:13
-of-numbers-requires : tie.Need-of-numbers-requires
-of-numbers-requires c κs = search needs
-
--- src/named.rt:74:25
-enum-known-refusal : tie.Need-enum-known-refusal
-enum-known-refusal c = search needs
-
--- src/named.rt:74:37
-refused-record-requires-2 : tie.Need-refused-record-requires-2
-refused-record-requires-2 c κs = search needs
-
--- src/named.rt:56:1
-returns-2 : tie.Need-returns-2
-returns-2 c = ?
-
--- src/named.rt:56:1
-returns-3 : tie.Need-returns-3
-returns-3 c = ?
 
 pub one-in-spec : {M : Type 1} → statement M
 one-in-spec =
-    tie.close
-    (tie.spec
-    check-record-requires
-    enum-told
-    too-large-requires
-    refused-record-requires
-    returns
-    with-number-requires
-    of-numbers-requires
-    enum-known-refusal
-    refused-record-requires-2
-    returns-2
-    returns-3)
+    tie.close (tie.spec (λ c κs. search needs) (λ c. search needs) (λ c κs. search needs)
+    (λ c κs. search needs)
+    (λ c. c .refused-record .ensures ∙ in-large _ _ _ _ (sym (c .before .before .before .before .before .check-record .ensures) ∙ c .before .before .before .enum-told .given .1) (c .before .before .before .before .before .before .pre .1) (sym (c .before .before .too-large .ensures) ∙ c .before .if1 .taken))
+    (λ c κs. search needs) (λ c κs. search needs) (λ c. search needs) (λ c κs. search needs)
+    (λ c. c .of-numbers .ensures ∙ rw (c .before .with-number .ensures) (in-done _ _ _ _ (sym (c .before .before .before .before .before .before .check-record .ensures) ∙ c .before .before .before .before .enum-told .given .1) (c .before .before .before .before .before .before .before .pre .1) (c .before .before .before .before .before .before .before .pre .0) (sym (c .before .before .before .too-large .ensures) ∙ c .before .before .if1 .left)))
+    (λ c. c .refused-record2 .ensures ∙ in-refused _ _ _ _ (sym (c .before .before .before .before .check-record .ensures) ∙ c .before .before .refusal .given .1)))
