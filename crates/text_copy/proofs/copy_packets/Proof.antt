@@ -27,5 +27,6 @@ returns-2 c =
 
 pub copy-packets-spec : {M : Type 1} → statement M
 copy-packets-spec =
-    tie.close (tie.spec (λ c κs. search needs) mul-if1 put-whole-requires (λ c. search needs) (λ c. search needs)
-    (λ c κs. search needs) returns-2 (λ c κs. search needs) (λ c. search needs) (λ c. search needs))
+    tie.close (tie.spec (λ c κs. search needs) mul-if1 put-whole-requires (λ c. search needs)
+    (λ c. search needs) (λ c κs. search needs) returns-2 (λ c κs. search needs)
+    (λ c. search needs) (λ c. search needs))

@@ -14,4 +14,5 @@ returns c =
     copied (textOf (a .words .now) (14 - a .offset) (length (a .words .now) / 4)) (a .out .now) (start .pre .1) (c .before .before .put-packets .ensures)
 
 pub put-whole-spec : {M : Type 1} → statement M
-put-whole-spec = tie.close (tie.spec (λ c κs. search needs) (λ c. search needs) returns)
+put-whole-spec =
+    tie.close (tie.spec (λ c κs. search needs) (λ c. search needs) returns)

@@ -14,4 +14,5 @@ returns-2 : tie.Need-returns-2
 returns-2 c = (sym (ap length (rw nonzero-none at (nonzero-kept _ [] (c .if1 .left)))), omega arith)
 
 pub octet-length-spec : {M : Type 1} → statement M
-octet-length-spec = tie.close (tie.spec returns returns-2)
+octet-length-spec =
+    tie.close (tie.spec returns returns-2)

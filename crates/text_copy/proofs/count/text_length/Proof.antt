@@ -50,5 +50,5 @@ returns c =
 
 pub text-length-spec : {M : Type 1} → statement M
 text-length-spec =
-    tie.close (tie.spec Inv-loop μ-loop (λ c κs. search needs) loop-holds text-words-requires (λ c κs. search needs)
-    add-count (λ c. search needs) (λ c. search needs) loop-again returns)
+    tie.close (tie.spec Inv-loop μ-loop (λ c κs. search needs) loop-holds text-words-requires
+    (λ c κs. search needs) add-count (λ c. search needs) (λ c. search needs) loop-again returns)

@@ -20,6 +20,6 @@ returns c = says (put-four-here _ _ _ _ _ _ (c .before .before .pre)) (listed _ 
 
 pub put-four-spec : {M : Type 1} → statement M
 put-four-spec =
-    tie.close (tie.spec (λ c κs. search needs) (λ c. search needs) (λ c. search needs) slice-write-out-2
-    (λ c. search needs) slice-write-out-3 (λ c. search needs) slice-write-out-4 (λ c. search needs)
-    (λ c. search needs) returns)
+    tie.close (tie.spec (λ c κs. search needs) (λ c. search needs) (λ c. search needs)
+    slice-write-out-2 (λ c. search needs) slice-write-out-3 (λ c. search needs) slice-write-out-4
+    (λ c. search needs) (λ c. search needs) returns)

@@ -14,4 +14,5 @@ returns-2 : tie.Need-returns-2
 returns-2 c = says (c .before .before .put-byte .ensures) (sym (rw nonzero-none at (nonzero-kept _ [] (c .before .before .before .before .if1 .left))))
 
 pub put-octet-spec : {M : Type 1} → statement M
-put-octet-spec = tie.close (tie.spec returns (λ c κs. search needs) (λ c. search needs) returns-2)
+put-octet-spec =
+    tie.close (tie.spec returns (λ c κs. search needs) (λ c. search needs) returns-2)

@@ -46,5 +46,5 @@ returns c =
 
 pub put-packets-spec : {M : Type 1} → statement M
 put-packets-spec =
-    tie.close (tie.spec Inv-loop μ-loop (λ c κs. search needs) loop-holds text-words-requires (λ c κs. search needs)
-    (λ c. search needs) (λ c. search needs) loop-again same-length returns)
+    tie.close (tie.spec Inv-loop μ-loop (λ c κs. search needs) loop-holds text-words-requires
+    (λ c κs. search needs) (λ c. search needs) (λ c. search needs) loop-again same-length returns)

@@ -14,4 +14,5 @@ returns-4 c e = rw div-one (none-zero _ _ _ _ (c .before .before .if1 .left) (c 
 
 pub no-zero-spec : {M : Type 1} → statement M
 no-zero-spec =
-    tie.close (tie.spec (λ c e. true-false (sym e)) (λ c e. true-false (sym e)) (λ c e. true-false (sym e)) returns-4)
+    tie.close (tie.spec (λ c e. true-false (sym e)) (λ c e. true-false (sym e))
+    (λ c e. true-false (sym e)) returns-4)

@@ -11,5 +11,5 @@ returns c = rw div-one
 
 pub octets-of-spec : {M : Type 1} → statement M
 octets-of-spec =
-    tie.close (tie.spec (λ c. search needs) (λ c. search needs) (λ c. search needs) (λ c. search needs)
-    returns)
+    tie.close (tie.spec (λ c. search needs) (λ c. search needs) (λ c. search needs)
+    (λ c. search needs) returns)

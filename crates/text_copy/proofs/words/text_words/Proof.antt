@@ -24,8 +24,7 @@ pub text-words-spec : {M : Type 1} → statement M
 text-words-spec =
     tie.close (tie.spec (λ c κs. search needs)
     (λ c. let w = within c in omega (arith, w .0, w .1, w .2))
-    (λ c. let w = within (c .before) in omega (arith, w .0, w .1, w .2))
-    (λ c κs. search needs)
+    (λ c. let w = within (c .before) in omega (arith, w .0, w .1, w .2)) (λ c κs. search needs)
     (λ c. let w = within (c .before .before) in omega (arith, w .0, w .1, w .2))
     (λ c. let w = within (c .before .before) in omega (arith, w .0, w .1, w .2))
     (λ c. let w = within (c .before .before .before) in omega (arith, w .0, w .1, w .2))
