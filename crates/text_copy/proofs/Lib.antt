@@ -1,0 +1,4 @@
+pub mod Packets
+pub mod Copies
+pub mod Told
+pub mod Steps
