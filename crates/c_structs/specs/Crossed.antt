@@ -16,6 +16,8 @@ use Rattle.records.specs.declared.answers.Answer.the-variants as A
 use Rattle.records.specs.Answers.{Said, accepted, refused, saidRead, walkedCase, saidWalked, saidPacket, saidSize, saidAnswer}
 use Rattle.standard.specs.Heads.{formatOf}
 use Rattle.standard.specs.Said.{saidStep}
+use Rattle.text_copy.specs.declared.TextCopy.{TextCopy}
+use Rattle.text_copy.specs.Copied.{saidCopy}
 use Rattle.numbers.specs.declared.Numbers.{Numbers}
 use Rattle.numbers.specs.Numbers.{numbered, asNumbers}
 use Rattle.c_structs.specs.declared.answers.Answered.{Answered}
@@ -24,6 +26,7 @@ use Rattle.c_structs.specs.declared.answers.WalkAnswer.{WalkAnswer}
 use Rattle.c_structs.specs.declared.answers.PacketAnswer.{PacketAnswer}
 use Rattle.c_structs.specs.declared.answers.SizeAnswer.{SizeAnswer}
 use Rattle.c_structs.specs.declared.answers.StepAnswer.{StepAnswer}
+use Rattle.c_structs.specs.declared.answers.TextAnswer.{TextAnswer}
 
 -- ---- the parts of a struct
 -- the numbers of a record, as an answer says them: its status, its packets, then its fields; all 0 where it says none
@@ -76,6 +79,10 @@ packetCrossed p = packetSaid (saidPacket p)
 
 abbrev pub sizeCrossed : MessageSize → SizeAnswer
 sizeCrossed n = record { refusal = saidSize n .refusal; place = saidSize n .place; words = getD (saidSize n .values) 0 0 }
+
+-- the text's length, also where there is no room for it
+abbrev pub copyCrossed : TextCopy → TextAnswer
+copyCrossed c = record { refusal = saidCopy c .refusal; place = saidCopy c .place; length = getD (saidCopy c .values) 0 0 }
 
 -- a byte of the text is never 0, so 0 is the end
 abbrev pub byteCrossed : TextStep → ℕ

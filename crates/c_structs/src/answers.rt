@@ -3,7 +3,7 @@ ghost use mathlib.Core.Path.{_≡_};
 ghost use Rattle.counts.specs.Counts.{word};
 ghost use Rattle.records.specs.declared.answers.Answer.{Answer};
 ghost use Rattle.records.specs.declared.answers.Walked.the-variants as W;
-ghost use Rattle.c_structs.specs.Crossed.{answered, withNumbers, withRefusal, readCrossed, foundCrossed, walkCrossed, packetCrossed, sizeCrossed, byteCrossed, stepCrossed, editedCrossed};
+ghost use Rattle.c_structs.specs.Crossed.{answered, withNumbers, withRefusal, readCrossed, foundCrossed, walkCrossed, packetCrossed, sizeCrossed, copyCrossed, byteCrossed, stepCrossed, editedCrossed};
 use kinds::choices::format_code;
 use kinds::refusal::Refusal;
 use kinds::refusal::refusal_number;
@@ -19,6 +19,7 @@ use records::answers::PacketRead;
 use records::answers::Read;
 use text::Stepped;
 use text::TextStep;
+use text_copy::TextCopy;
 
 #[repr(C)]
 pub struct Answered {
@@ -61,6 +62,14 @@ pub struct SizeAnswer {
     pub refusal: u32,
     pub place: usize,
     pub words: usize,
+}
+
+// The length of a text, also where there is no room for it.
+#[repr(C)]
+pub struct TextAnswer {
+    pub refusal: u32,
+    pub place: usize,
+    pub length: usize,
 }
 
 // The byte, 0 at the end, and the place after it.
@@ -223,6 +232,28 @@ pub fn of_size(size: MessageSize) -> SizeAnswer
             refusal: refusal_number(refusal),
             place: refusal_place(refusal),
             words: 0,
+        },
+    }
+}
+
+pub fn of_copy(copy: TextCopy) -> TextAnswer
+    ensures { λ r. ⌜ r ≡ copyCrossed copy ⌝ }
+{
+    match copy {
+        TextCopy::Copied(n) => TextAnswer {
+            refusal: 0,
+            place: 0,
+            length: n.0,
+        },
+        TextCopy::NoRoom(n) => TextAnswer {
+            refusal: refusal_number(Refusal::NoRoom),
+            place: refusal_place(Refusal::NoRoom),
+            length: n.0,
+        },
+        TextCopy::Refused(refusal) => TextAnswer {
+            refusal: refusal_number(refusal),
+            place: refusal_place(refusal),
+            length: 0,
         },
     }
 }

@@ -5,7 +5,8 @@ ghost use Rattle.standard.specs.Place.{nextByte};
 ghost use Rattle.standard.specs.Reading.{readOf};
 ghost use Rattle.standard.specs.Walk.{walkOf};
 ghost use Rattle.standard.specs.Words.{freshOn};
-ghost use Rattle.c_structs.specs.Crossed.{answered, readCrossed, walkCrossed, packetCrossed, sizeCrossed, stepCrossed};
+ghost use Rattle.c_structs.specs.Crossed.{answered, readCrossed, walkCrossed, packetCrossed, sizeCrossed, stepCrossed, copyCrossed};
+ghost use Rattle.text_copy.specs.Copied.{copyOn};
 ghost use Rattle.listing.specs.Listed.{Listed};
 ghost use Rattle.frayedbin.specs.Calls.{placeAt, freshIn, writeIn};
 use c_structs::answers::Answered;
@@ -14,7 +15,9 @@ use c_structs::answers::RecordAnswer;
 use c_structs::answers::SizeAnswer;
 use c_structs::answers::StepAnswer;
 use c_structs::answers::WalkAnswer;
+use c_structs::answers::TextAnswer;
 use c_structs::answers::of_answer;
+use c_structs::answers::of_copy;
 use c_structs::answers::of_end;
 use c_structs::answers::of_found;
 use c_structs::answers::of_other;
@@ -46,6 +49,7 @@ use records::answers::Answer;
 use records::answers::Walked;
 use records::message::Message;
 use text::TextPlace;
+use text_copy::copy_text;
 use walking::helpers::other_size;
 
 #[no_mangle]
@@ -125,6 +129,15 @@ pub extern "C" fn frayedbin_next_byte(
         byte: TextByteNumber(byte_number),
     };
     of_step(by_byte::next_byte(words, place))
+}
+
+// The whole text of one message.
+#[no_mangle]
+pub extern "C" fn frayedbin_text(words: &[u32], out: &mut [u8]) -> TextAnswer
+    ensures answer { λ r. ⌜ r ≡ copyCrossed (copyOn (now (words .entry)) (now (out .entry)) .answer) ⌝ }
+    ensures bytes { λ r. ⌜ now (out .exit) ≡ copyOn (now (words .entry)) (now (out .entry)) .bytes ⌝ }
+{
+    of_copy(copy_text(words, out))
 }
 
 #[no_mangle]

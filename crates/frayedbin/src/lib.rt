@@ -1,4 +1,5 @@
 // The library that C and Rust link: every public call under one prefix, its answer a struct of numbers.
+mod about;
 mod calls;
 mod device_identity;
 mod endpoint_discovery;
