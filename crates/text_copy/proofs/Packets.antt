@@ -1,6 +1,6 @@
 -- The text of packets, word by word: the octets without zeros of each packet's words, the first of them cut to its text. Proved from the bytes of a packet.
 use Prim.Native.Nat.{ℕ, zero, suc, _+_, _-_, _*_, _/_, _%_, _^_, _<_, _≤_}
-use mathlib.Core.Path.{_≡_, refl, sym, ap, ap₂, _∙_}
+use mathlib.Core.Path.{_≡_, sym, ap, ap₂, _∙_}
 use mathlib.Core.List.{List, [], _∷_, _++_}
 use native.Mathlib.Nat.{add-zero, zero-add, zero-mul, sub-zero}
 use native.Mathlib.Omega.{arith}

@@ -23,7 +23,7 @@ returns-2 : tie.Need-returns-2
 returns-2 c =
     let a = c .before .before .before .before .before .before .before .args in
     let e = c .before .text-length .ensures in
-    rw e (no-room (textOf (a .words .now) (14 - a .offset) (length (a .words .now) / 4)) (a .out .now) (rw e at (c .if2 .taken)))
+    rw e (no-room (textOf (a .words .now) (14 - a .offset) (length (a .words .now) / 4)) (a .out .now) (let h = c .if2 .taken in omega (arith, h, e)))
 
 pub copy-packets-spec : {M : Type 1} → statement M
 copy-packets-spec =

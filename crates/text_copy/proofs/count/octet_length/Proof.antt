@@ -1,6 +1,6 @@
 -- `count::octet_length` meets its contract, for zero and for any other octet.
 use mathlib.Core.Path.{sym, ap, _∙_}
-use mathlib.Core.List.{[], _∷_}
+use mathlib.Core.List.{[]}
 use native.Mathlib.Omega.{arith}
 use lib.ListN.{length}
 use Rattle.laws.proofs.Lists.{nonzero-none, nonzero-zero, nonzero-kept}

@@ -1,6 +1,6 @@
 -- `put::put_octet` meets its contract: zero puts nothing, and any other octet itself.
 use mathlib.Core.Path.{sym, _∙_}
-use mathlib.Core.List.{[], _∷_}
+use mathlib.Core.List.{[]}
 use Rattle.laws.proofs.Lists.{nonzero-none, nonzero-zero, nonzero-kept}
 use Rattle.ascii_lines.proofs.Page.{nothing, says}
 use borrow.Author.Needs.{needs}
