@@ -4,16 +4,19 @@
  * call changes no word. So nothing has to be checked before a call, only the answer after it.
  *
  * A message is one packet or more, and a packet is four words: 32-bit numbers of this machine,
- * not bytes in network order. A slice is a pointer and a length. The pointer is never null, not
- * even for a length of 0, and the slices of one call do not overlap. No call keeps a pointer or
+ * not bytes in network order. A slice is a pointer and a length. A pointer may be null where its
+ * length is 0, and only there; the slices of one call do not overlap. No call keeps a pointer or
  * has a state of its own, so calls on different slices may be made from any thread.
  *
  * Build an answer: frayedbin_fresh starts a message at the head of a slice, the settings fill it
- * in, frayedbin_message_size tells where the next one may start. Read a stream: frayedbin_walk
- * from position 0, on to .next, until it finds the end. Text is handed out byte by byte, by
- * frayedbin_next_byte. c/example.c does all of this.
+ * in, frayedbin_message_size tells where the next one may start. Give each message that has a text
+ * a slice of its own: a text, a fresh message and a written record make every later whole packet
+ * of their slice zero. Read a stream: frayedbin_walk from position 0, on to .next, until it finds
+ * the end; frayedbin_text copies the text of a message that was found. c/probe.c answers a
+ * discovery so, and c/example.c uses every kind of call.
  *
- * Link with libfrayedbin.a (x86-64 Linux), which `rt staticlib frayedbin` makes.
+ * Link with libfrayedbin.a (x86-64 Linux), which `rt staticlib frayedbin` makes. The header and
+ * the library fit together where frayedbin_version() gives FRAYEDBIN_VERSION.
  */
 #ifndef FRAYEDBIN_H
 #define FRAYEDBIN_H
@@ -25,6 +28,12 @@
 #ifdef __cplusplus
 extern "C" {
 #endif
+
+/* The version that this header describes: major, minor and patch, one byte each. */
+#define FRAYEDBIN_VERSION 0x000200u
+
+/* The version of the library that is linked. */
+uint32_t frayedbin_version(void);
 
 /* ---- numbers with a name */
 
@@ -43,9 +52,9 @@ enum frayedbin_refusal {
     FRAYEDBIN_BAD_PORT = 9,             /* the MIDI 1.0 port is 3 */
     FRAYEDBIN_BAD_DIRECTION = 10,       /* the direction is 0 */
     FRAYEDBIN_NOT_UTF8 = 11,            /* the text is not UTF-8 */
-    FRAYEDBIN_NUMBER_TOO_LARGE = 12,    /* a number is above its field's largest */
+    FRAYEDBIN_NUMBER_TOO_LARGE = 12,    /* above its field's largest, or a code that names no choice */
     FRAYEDBIN_NO_SUCH_FIELD = 13,       /* this kind has no such field */
-    FRAYEDBIN_NO_ROOM = 14              /* the slice has too few whole packets */
+    FRAYEDBIN_NO_ROOM = 14              /* too few whole packets, or too few bytes for a text */
 };
 
 /* The seven kinds, by status. */
@@ -105,7 +114,7 @@ enum frayedbin_size {
 
 /* The numbers that each kind has, by their place in a record; those after its last are 0. Flags
  * are 0 or 1. An endpoint name and a product instance id have none: text is not in a record, and
- * comes from the words, by frayedbin_next_byte. */
+ * comes from the words, by frayedbin_text. */
 enum frayedbin_discovery_number {
     FRAYEDBIN_DISCOVERY_UMP_VERSION_MAJOR,
     FRAYEDBIN_DISCOVERY_UMP_VERSION_MINOR,
@@ -150,12 +159,18 @@ enum frayedbin_block_name_number {
     FRAYEDBIN_BLOCK_NAME_FUNCTION_BLOCK
 };
 
-/* A message's record: its kind by status, its packets, and its numbers. */
+/* A message's record: its kind by status, its packets, and its numbers. frayedbin_record_fresh
+ * starts one, frayedbin_read and frayedbin_walk give one. .reserved is room for later versions: 0
+ * in every answer, and never looked at. */
 typedef struct frayedbin_record {
     uint32_t status;
     size_t packets;
     uint32_t number[FRAYEDBIN_NUMBERS];
+    uint32_t reserved[5];
 } frayedbin_record;
+
+/* A compiler that lays a record out in another way than the library stops here. */
+typedef char frayedbin_record_has_72_bytes[sizeof(frayedbin_record) == 72 ? 1 : -1];
 
 /* ---- answers: .refusal is FRAYEDBIN_DONE, or why the call is refused; .place is where */
 
@@ -207,6 +222,13 @@ typedef struct frayedbin_size_answer {
     size_t words;
 } frayedbin_size_answer;
 
+/* Of frayedbin_text: how long the text is, also where there is no room for it. */
+typedef struct frayedbin_text_answer {
+    uint32_t refusal;
+    size_t place;
+    size_t length;
+} frayedbin_text_answer;
+
 /* Of frayedbin_next_byte: a byte of text, 0 at the end, and the place to go on from. */
 typedef struct frayedbin_step_answer {
     uint32_t byte;
@@ -216,10 +238,11 @@ typedef struct frayedbin_step_answer {
 
 /* ---- reading */
 
-/* Reads a slice that should be one message. */
+/* Reads a slice that should be one message. Refusals 1 to 11, in this order. */
 frayedbin_record_answer frayedbin_read(const uint32_t *words, size_t length);
 
-/* Finds what stands at a word position of a stream; go on at .next until the end.
+/* Finds what stands at a word position of a stream; go on at .next until the end. What it finds
+ * is a refusal, 1 and 3 to 11, where a message is broken off or not one of these kinds.
  *
  * Where words still arrive, the end and refusal 1 are not final: wait at the position that was
  * given, not at .next, and walk from there again when words have been appended. Every other answer
@@ -235,32 +258,61 @@ frayedbin_packet_answer frayedbin_packet(const uint32_t *words, size_t length);
  * which no packet ends it (1). */
 frayedbin_size_answer frayedbin_message_size(const uint32_t *words, size_t length);
 
-/* Gives the next byte of a message's text that is not zero, from a place on, and the place after
- * it. Start at packet 0, byte 0, and go on at the place given until the byte is 0. */
+/* Copies the whole text of a slice that should be one message to the start of out, with no zero
+ * after it, and gives its length: at most 896 bytes, and at most 14 for each packet. Refused as
+ * frayedbin_read refuses (1 to 11), then where the kind has no text (13), then where the room is
+ * too small (14); .length is the room needed there, and no byte of out has changed. */
+frayedbin_text_answer frayedbin_text(
+    const uint32_t *words, size_t length, uint8_t *out, size_t room);
+
+/* Gives the next byte of a text that is not zero, from a place on, and the place after it; never
+ * refuses. Start at packet 0, byte 0, and go on at the place given until the byte is 0. It goes
+ * over every whole packet of the slice, so cut the slice to one message. */
 frayedbin_step_answer frayedbin_next_byte(
     const uint32_t *words, size_t length, size_t packet, size_t byte_number);
 
 /* Lists a capture of big-endian words as lines of ASCII, with no zero after them, and gives how
- * many bytes it wrote: as many as there is room for. A capture of more than 32768 bytes gives
- * the line `input too long`. */
+ * many bytes it wrote: as many as there is room for. FRAYEDBIN_LISTING_ROOM bytes hold any listing;
+ * in less, a listing that is cut fills the room, and a whole one ends in its line `end` and a
+ * newline. A capture of more than 32768 bytes gives the line `input too long`. It takes 33 KB of
+ * stack, every other call less than 1 KB. */
 size_t frayedbin_list(const uint8_t *bytes, size_t length, uint8_t *out, size_t room);
+
+/* ---- sentences and names, as C strings
+ *
+ * Both write like snprintf: cut to the room, ended by a zero byte where the room is not 0; they
+ * give the length of the whole string. It is empty for a number that has none. 80 bytes hold each.
+ */
+
+/* Says why a call is refused (frayedbin_refusal), in English. */
+size_t frayedbin_refusal_text(uint32_t refusal, uint8_t *out, size_t room);
+
+/* Names a kind (frayedbin_status) as the listing does: endpoint-name, and so on. */
+size_t frayedbin_kind_name(uint32_t status, uint8_t *out, size_t room);
 
 /* ---- writing */
 
 /* Makes every whole packet of a slice zero and starts a message of a kind (frayedbin_status)
- * with one packet: all fields 0 but a block info's direction, which is bidirectional. */
+ * with one packet: all fields 0 but a block info's direction, which is bidirectional. Refused for
+ * a status of no kind (5), then where the slice has no whole packet (14). */
 frayedbin_answer frayedbin_fresh(uint32_t *words, size_t length, uint32_t status);
 
-/* Writes a record as a fresh message with its fields; refuses the kinds that have text (13). */
+/* Writes a record as a fresh message with its fields: every later whole packet of the slice
+ * becomes zero. Refused for a status of no kind (5), a kind that has text (13), numbers that are
+ * no record (12), a slice with no whole packet (14), in this order. */
 frayedbin_answer frayedbin_write(uint32_t *words, size_t length, frayedbin_record record);
 
 /* ---- settings on words
  *
- * Each acts on the message at the start of a slice and changes its own field alone. Where that
- * message is of another kind it is refused (13). A text takes as many packets as it needs, and
- * every whole packet of the slice after them becomes zero; one that is not UTF-8 is refused
- * (11), needs more than 64 packets (3), or more than the slice has (14). A zero byte in a text is
- * a character of its own, and reading passes it over.
+ * Each acts on the message at the start of a slice and changes its own field alone. Refused, in
+ * this order: as frayedbin_walk refuses at position 0, a message of another type being 4 and an
+ * empty slice 1; a message of another kind (13); a number above the field's largest, or a code
+ * that names no choice (12); a text that is not UTF-8 (11), needs more than 64 packets (3), or
+ * more than the slice has (14). Flags are refused only for what stands there.
+ *
+ * A text takes as many packets as it needs, and every whole packet of the slice after them becomes
+ * zero, also those of a later message: give it a slice of its own. A zero byte in a text is a
+ * character of its own, and reading passes it over.
  */
 
 /* -- Endpoint discovery, status 0x00. */
@@ -408,12 +460,18 @@ frayedbin_answer frayedbin_function_block_name_set_name(
 /* ---- settings on a record
  *
  * Each hands the record back with the field set, and unchanged where it is refused, so that
- * they can be chained. They go by the field's name: a record of a kind that has no such field
- * is refused (13). Numbers that are no record are refused and come back as they were: a status
- * (5), a number (12), a port (9) or a direction (10) that no message has. Numbers after the
- * kind's last, and the packets of a kind with no text, are not looked at; where the setting is
- * made they come back as 0 and 1.
+ * they can be chained. They go by the field's name. Refused, in this order: a status of no kind
+ * (5); a kind that has no such field (13); numbers that are no record, a number above its field's
+ * largest or a code that names no choice, in the record or given (12). A port of 3 and a direction
+ * of 0 name none, so that a record of all zeros is no block info: frayedbin_record_fresh starts
+ * one. Numbers after the kind's last, .reserved, and the packets of a kind with no text are not
+ * looked at; where the setting is made they come back as 0 and 1. A record holds no text, so no
+ * call sets one on it.
  */
+
+/* Gives the record of a fresh message of a kind (frayedbin_status): one packet, and all numbers 0
+ * but a block info's direction, which is bidirectional. Refused for a status of no kind (5). */
+frayedbin_record_answer frayedbin_record_fresh(uint32_t status);
 
 /* -- Endpoint discovery. */
 
@@ -528,16 +586,6 @@ frayedbin_record_answer frayedbin_record_set_max_number_of_midi_ci_streams(
 /* Sets the number of the block, 0 to 255. */
 frayedbin_record_answer frayedbin_record_set_function_block(
     frayedbin_record record, uint32_t number);
-
-/* -- Text: a record holds none, so these always refuse: 13, or what is wrong with the record. */
-
-/* Would set a name. */
-frayedbin_record_answer frayedbin_record_set_name(
-    frayedbin_record record, const uint8_t *name, size_t name_length);
-
-/* Would set an id. */
-frayedbin_record_answer frayedbin_record_set_id(
-    frayedbin_record record, const uint8_t *id, size_t id_length);
 
 #ifdef __cplusplus
 }

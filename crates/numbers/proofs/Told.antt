@@ -6,8 +6,12 @@ use Rattle.kinds.specs.Fields.{decided, same, start, partOf, joined}
 use Rattle.kinds.specs.Layout.{layout, among, held, valuesIn}
 use Rattle.records.specs.Records.{recordOf, fieldsIn, lookup, firstPart}
 use Rattle.numbers.specs.FromNumbers.{spread, fromKind}
-use Rattle.numbers.specs.Told.{ToldNumbers}
+use Rattle.numbers.specs.Told.{ToldNumbers, ToldFrom}
 
 pub told-numbers : ToldNumbers
 unfolding both map each get those fits decided same start partOf joined layout among held valuesIn recordOf fieldsIn lookup firstPart spread fromKind
 told-numbers = search
+
+pub told-from : ToldFrom
+unfolding both map each get those fits decided same start partOf joined layout among held valuesIn recordOf fieldsIn lookup firstPart spread fromKind
+told-from = search

@@ -6,11 +6,12 @@ use Rattle.kinds.specs.declared.kind.Kind.{Kind}
 use Rattle.kinds.specs.declared.kind.Kind.the-variants as K
 use Rattle.kinds.specs.Layout.{layout, valuesIn}
 use Rattle.records.specs.declared.message.Message.{Message}
-use Rattle.records.specs.Answers.{accepted}
+use Rattle.records.specs.Answers.{Said, accepted}
+use Rattle.records.specs.Told.{refusal}
 use Rattle.records.specs.Records.{recordOf}
 use Rattle.numbers.specs.declared.Numbers.{Numbers}
-use Rattle.numbers.specs.Numbers.{unused, asNumbers}
-use Rattle.numbers.specs.FromNumbers.{fromOwn, saidFrom}
+use Rattle.numbers.specs.Numbers.{unused, numbered, asNumbers}
+use Rattle.numbers.specs.FromNumbers.{fromOwn, fromFixed, saidFrom}
 
 -- the record of a kind that these words hold
 abbrev in-words : Kind → List ℕ → Message
@@ -29,3 +30,34 @@ pub record ToldNumbers : Type 0 where
   -- family and model are one number each, the low seven bits from the first octet
   pub identity-numbers : asNumbers (in-words K.DeviceIdentity (0xF0020000 ∷ 0x00010203 ∷ 0x04050607 ∷ 0x08090A0B ∷ [])) ≡ identity
   pub identity-back : saidFrom (fromOwn K.DeviceIdentity identity) ≡ accepted (0x02 ∷ 1 ∷ 1 ∷ 2 ∷ 3 ∷ 0x284 ∷ 0x386 ∷ 8 ∷ 9 ∷ 10 ∷ 11 ∷ [])
+
+-- numbers of a status, asked for as a record of a kind, and as one of any fixed kind
+abbrev Own : Kind → Numbers → Said → Type 0
+Own k c said = saidFrom (fromOwn k c) ≡ said
+
+abbrev Fixed : Numbers → Said → Type 0
+Fixed c said = saidFrom (fromFixed c) ≡ said
+
+-- a block info with this hint, port and direction
+abbrev chosen : ℕ → ℕ → ℕ → Numbers
+chosen h p d = numbered 0x11 1 (0 ∷ 0 ∷ h ∷ p ∷ d ∷ [])
+
+pub record ToldFrom : Type 0 where
+  -- refusal 5 before 13 and 12, also where a number is too large
+  pub no-kind : Own K.FunctionBlockInfo (numbered 0x05 1 (999 ∷ [])) (refusal 5 0)
+  pub no-fixed-kind : Fixed (numbered 0x13 1 (999 ∷ [])) (refusal 5 0)
+  -- refusal 13 before 12: for another kind, and for a kind with text that is written
+  pub other-kind : Own K.FunctionBlockInfo (numbered 0x12 1 (256 ∷ [])) (refusal 13 0)
+  pub other-fixed-kind : Own K.EndpointDiscovery (numbered 0x01 1 (256 ∷ [])) (refusal 13 0)
+  pub text-kind : Fixed (numbered 0x12 1 (256 ∷ [])) (refusal 13 0)
+  pub text-alone : Fixed (numbered 0x03 1 []) (refusal 13 0)
+  -- refusal 12 for a number above its field's largest
+  pub number : Own K.FunctionBlockName (numbered 0x12 1 (256 ∷ [])) (refusal 12 0)
+  pub flag : Fixed (numbered 0x00 1 (0 ∷ 0 ∷ 2 ∷ [])) (refusal 12 0)
+  pub pair : Fixed (numbered 0x02 1 (0 ∷ 0 ∷ 0 ∷ 16384 ∷ [])) (refusal 12 0)
+  -- and for a code that names no choice; 9 and 10 come from words only
+  pub hint-four : Own K.FunctionBlockInfo (chosen 4 0 3) (refusal 12 0)
+  pub port-three : Own K.FunctionBlockInfo (chosen 0 3 3) (refusal 12 0)
+  pub direction-none : Fixed (chosen 0 0 0) (refusal 12 0)
+  pub direction-four : Fixed (chosen 0 0 4) (refusal 12 0)
+  pub named : Fixed (chosen 3 2 1) (accepted (0x11 ∷ 1 ∷ 0 ∷ 0 ∷ 3 ∷ 2 ∷ 1 ∷ 0 ∷ 0 ∷ 0 ∷ 0 ∷ []))
