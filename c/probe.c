@@ -12,11 +12,17 @@ enum { MESSAGE_ROOM = 32, SENT_ROOM = 128 };
 static uint32_t sent[SENT_ROOM];
 static size_t sent_words;
 
-/* What the probe is; the numbers of a record are in the order of frayedbin.h. */
+/* The host's question: endpoint info, device identity, name and id, please. */
 static const uint32_t question[] = {0xF0000101, 0x0000000F, 0, 0};
+
+/* UMP 1.1; static blocks, MIDI 2.0 and MIDI 1.0, no jitter reduction either way; two blocks. */
 static const frayedbin_record info = {FRAYEDBIN_ENDPOINT_INFO, 1, {1, 1, 1, 1, 1, 0, 0, 2}};
+
+/* Manufacturer, family, model, software version. */
 static const frayedbin_record identity = {
     FRAYEDBIN_DEVICE_IDENTITY, 1, {0x7D, 0x00, 0x00, 1, 2, 1, 2, 0, 3}};
+
+/* Active, number, hint, MIDI 1.0 port, direction, first group, groups, MIDI-CI version, streams. */
 static const frayedbin_record keys = {
     FRAYEDBIN_FUNCTION_BLOCK_INFO, 1,
     {1, 0, FRAYEDBIN_HINT_SENDER_RECEIVER, FRAYEDBIN_PORT_NONE, FRAYEDBIN_DIRECTION_BIDIRECTIONAL,

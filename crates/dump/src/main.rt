@@ -51,7 +51,7 @@ fn list_input() {
 }
 
 fn main() {
-    // Words may ask for help, or name a file that a listing of standard input would be taken for.
+    // Who asks for help or names a file is told how to use the program.
     if os::arg_count() > 1 {
         io::write_all(
             STDERR_FILENO,
