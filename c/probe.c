@@ -72,7 +72,7 @@ static void send_id(const char *id) {
     send_message(m);
 }
 
-/* A block of one group, which has its number. What is not set is 0: no MIDI 1.0 port, no streams. */
+/* A block of one group, which has its number; the MIDI 1.0 port and the streams stay 0. */
 static void send_block(uint32_t number, uint32_t direction, uint32_t hint, uint32_t ci_version) {
     uint32_t m[ROOM];
     must(frayedbin_fresh(m, ROOM, FRAYEDBIN_FUNCTION_BLOCK_INFO));
