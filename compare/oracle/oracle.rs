@@ -191,7 +191,8 @@ fn direction_code(direction: Direction) -> u32 {
     }
 }
 
-/// The fields of a block info.
+/// The fields of a block info. The benchmark adds them up, and a call in between would cost it a store of each.
+#[inline(always)]
 pub(crate) fn block(m: &FunctionBlockInfo<&[u32]>) -> [u32; 9] {
     [
         m.active() as u32,
