@@ -2,25 +2,25 @@
 
 use crate::c_face::*;
 use crate::captures::{endpoint_name, name, text, ASCII, BLOCK_INFO};
-use crate::{keep, read_by_c, Case};
+use crate::{keep, read_by_c, Call, Case};
 use frayedbin::{Direction, EndpointName, FunctionBlockInfo, Midi1Port, UiHint};
 use oracle::timed as rust;
 
-/// The most that a call is wanted to cost of the C call.
+/// The most that the ratio of a call to the C call is wanted to be.
 pub const MOST_TO_C: f64 = 1.3;
 
-/// The most that a name as a string is wanted to cost of the Rust's.
-const MOST_OF_A_STRING: f64 = 0.5;
+/// The most that the ratio of `name()` to the Rust's is wanted to be.
+const MOST_OF_NAME: f64 = 0.5;
 
 /// A name of four packets with three bytes to spare.
 const NAME_BYTES: usize = 53;
 
-/// A row; its calls are in the order of every case.
-fn row(name: &str, wanted: Option<f64>, c: crate::Call, rust: crate::Call, own: crate::Call) -> Case {
+/// A row: the C call, the given Rust and the crate's own call.
+fn row(name: &str, wanted: Option<f64>, c: Call, rust: Call, own: Call) -> Case {
     Case { name: name.to_string(), wanted, words: None, calls: vec![c, rust, own] }
 }
 
-/// What a setting says is that it was made; that it was made right is seen here, once, from the words.
+/// A timed setting says only whether it was made. That the crate makes it right is seen here, once, from its words.
 fn set_name() -> Case {
     let words = endpoint_name(1, ASCII);
     let of = text(ASCII, 14);
@@ -127,8 +127,8 @@ fn name_as_string() -> Case {
     assert!(message.name() == of && rust::name(&words) == of);
     let by_rust = words.clone();
     row(
-        "name() of 53 bytes, a String",
-        Some(MOST_OF_A_STRING),
+        &format!("name() of {} bytes, a String", NAME_BYTES),
+        Some(MOST_OF_NAME),
         Box::new(move || {
             let words = keep(&words[..]);
             let a = unsafe { frayedbin_text(words.as_ptr(), words.len(), out.as_mut_ptr(), out.len()) };
