@@ -1,62 +1,19 @@
-//! The benchmark: the library and the given Rust on the same inputs, in one program.
+//! The benchmark: the library, the Rust crate over it and the given Rust on the same inputs, in one program.
 //!
-//! `bench times` measures both in turn; `bench calls [NUMBER]` makes each call, or the first ones, once between two
+//! `bench times` measures the sides in turn; `bench calls [NUMBER]` makes each call, or the first ones, once between two
 //! marks, for a counter of instructions outside; `bench counts` reads what it counted and prints the table; `bench captures` and
 //! `bench capture NUMBER` are the inputs for `dump`.
 
+mod c_face;
 mod captures;
+mod crate_cases;
 
+use c_face::*;
 use captures::{block_name, capture, endpoint_name, text};
 use captures::{ASCII, BLOCK_INFO, CAPTURES, GREEK, JAPANESE, MOST, SYMBOLS};
 use oracle::timed as rust;
 use std::io::{Read, Write};
 use std::time::Instant;
-
-#[repr(C)]
-struct Record {
-    status: u32,
-    packets: usize,
-    number: [u32; 9],
-}
-
-#[repr(C)]
-struct Done {
-    refusal: u32,
-    place: usize,
-}
-
-#[repr(C)]
-struct ReadAnswer {
-    refusal: u32,
-    place: usize,
-    record: Record,
-}
-
-#[repr(C)]
-struct WalkAnswer {
-    found: u32,
-    refusal: u32,
-    place: usize,
-    ump_type: u32,
-    size: usize,
-    next: usize,
-    record: Record,
-}
-
-#[repr(C)]
-struct StepAnswer {
-    byte: u32,
-    packet: usize,
-    byte_number: usize,
-}
-
-extern "C" {
-    fn frayedbin_read(words: *const u32, length: usize) -> ReadAnswer;
-    fn frayedbin_walk(words: *const u32, length: usize, position: usize) -> WalkAnswer;
-    fn frayedbin_next_byte(words: *const u32, length: usize, packet: usize, byte: usize) -> StepAnswer;
-    fn frayedbin_endpoint_name_set_name(words: *mut u32, length: usize, text: *const u8, bytes: usize) -> Done;
-    fn frayedbin_function_block_name_set_function_block(words: *mut u32, length: usize, v: u32) -> Done;
-}
 
 /// As in the comparison's driver: for an emulator that dies in this call.
 #[cfg(emulated)]
@@ -73,15 +30,31 @@ fn keep<T: Copy>(value: T) -> T {
 
 type Call = Box<dyn FnMut() -> u32>;
 
-/// The same work on both sides; each call's number must be the same.
+/// The same work on each side; each call's number must be the same.
 struct Case {
     name: String,
     /// The most that the ratio to the Rust is wanted to be.
     wanted: Option<f64>,
     /// Words that are walked, where the cost of one is told.
     words: Option<usize>,
-    ours: Call,
-    rust: Option<Call>,
+    /// The library's C call; then the given Rust, where it has the like; then the Rust crate, in rows of its own.
+    calls: Vec<Call>,
+}
+
+/// The sum of all that a record says. Fields are loaded one by one, as a caller takes them: in one vector they would wait for
+/// the library's stores.
+fn sum(record: &Record) -> u32 {
+    let field = |number: &u32| unsafe { std::ptr::read_volatile(number) };
+    record.number.iter().map(field).fold(record.status + record.packets as u32, |sum, number| sum + number)
+}
+
+fn read_by_c(words: &[u32]) -> u32 {
+    let a = unsafe { frayedbin_read(words.as_ptr(), words.len()) };
+    if a.refusal == 0 {
+        sum(&a.record)
+    } else {
+        0
+    }
 }
 
 fn read(name: &str, words: Vec<u32>, wanted: Option<f64>) -> Case {
@@ -90,12 +63,10 @@ fn read(name: &str, words: Vec<u32>, wanted: Option<f64>) -> Case {
         name: name.to_string(),
         wanted,
         words: None,
-        ours: Box::new(move || {
-            let words = keep(&words[..]);
-            let a = unsafe { frayedbin_read(words.as_ptr(), words.len()) };
-            keep(if a.refusal == 0 { a.record.status } else { 0 })
-        }),
-        rust: Some(Box::new(move || keep(rust::read(keep(&again[..])).unwrap_or(0)))),
+        calls: vec![
+            Box::new(move || keep(read_by_c(keep(&words[..])))),
+            Box::new(move || keep(rust::read(keep(&again[..])).unwrap_or(0))),
+        ],
     }
 }
 
@@ -118,8 +89,10 @@ fn step(name: &str, words: Vec<u32>) -> Case {
         name: name.to_string(),
         wanted: None,
         words: None,
-        ours: Box::new(move || keep(stepped(keep(&words[..])))),
-        rust: Some(Box::new(move || keep(rust::sum_of_text(keep(&again[..]))))),
+        calls: vec![
+            Box::new(move || keep(stepped(keep(&words[..])))),
+            Box::new(move || keep(rust::sum_of_text(keep(&again[..])))),
+        ],
     }
 }
 
@@ -135,21 +108,23 @@ fn set(name: &str, packets: usize, of: &str, fresh: bool, wanted: Option<f64>) -
         name: format!("set an endpoint name, {}, over {}", name, if fresh { "a fresh one" } else { "itself" }),
         wanted,
         words: None,
-        ours: Box::new(move || {
-            if fresh {
-                words[..4].copy_from_slice(&FRESH);
-            }
-            let (at, length, text) = (words.as_mut_ptr(), words.len(), keep(&text[..]));
-            let a = unsafe { frayedbin_endpoint_name_set_name(at, length, text.as_ptr(), text.len()) };
-            keep(if a.refusal == 0 { words[0] ^ words[length - 1] } else { 0 })
-        }),
-        rust: Some(Box::new(move || {
-            if fresh {
-                again[..4].copy_from_slice(&FRESH);
-            }
-            let is_done = rust::set_endpoint_name(&mut again, keep(&copy[..]));
-            keep(if is_done { again[0] ^ again[again.len() - 1] } else { 0 })
-        })),
+        calls: vec![
+            Box::new(move || {
+                if fresh {
+                    words[..4].copy_from_slice(&FRESH);
+                }
+                let (at, length, text) = (words.as_mut_ptr(), words.len(), keep(&text[..]));
+                let a = unsafe { frayedbin_endpoint_name_set_name(at, length, text.as_ptr(), text.len()) };
+                keep(if a.refusal == 0 { words[0] ^ words[length - 1] } else { 0 })
+            }),
+            Box::new(move || {
+                if fresh {
+                    again[..4].copy_from_slice(&FRESH);
+                }
+                let is_done = rust::set_endpoint_name(&mut again, keep(&copy[..]));
+                keep(if is_done { again[0] ^ again[again.len() - 1] } else { 0 })
+            }),
+        ],
     }
 }
 
@@ -159,15 +134,17 @@ fn set_number(name: &str, words: Vec<u32>) -> Case {
         name: name.to_string(),
         wanted: None,
         words: None,
-        ours: Box::new(move || {
-            let (at, length) = (words.as_mut_ptr(), words.len());
-            let a = unsafe { frayedbin_function_block_name_set_function_block(at, length, keep(7)) };
-            keep((a.refusal == 0) as u32)
-        }),
-        rust: Some(Box::new(move || {
-            rust::set_function_block(&mut again, keep(7));
-            1
-        })),
+        calls: vec![
+            Box::new(move || {
+                let (at, length) = (words.as_mut_ptr(), words.len());
+                let a = unsafe { frayedbin_function_block_name_set_function_block(at, length, keep(7)) };
+                keep((a.refusal == 0) as u32)
+            }),
+            Box::new(move || {
+                rust::set_function_block(&mut again, keep(7));
+                1
+            }),
+        ],
     }
 }
 
@@ -189,8 +166,7 @@ fn walk(of: &str, length: usize) -> Case {
         name: format!("walk {} words: {}", length, of),
         wanted: None,
         words: Some(length),
-        ours: Box::new(move || keep(walked(keep(&words[..])))),
-        rust: None,
+        calls: vec![Box::new(move || keep(walked(keep(&words[..]))))],
     }
 }
 
@@ -213,8 +189,7 @@ fn cases() -> Vec<Case> {
         name: "nothing: the cost of measuring".to_string(),
         wanted: None,
         words: None,
-        ours: nothing(),
-        rust: Some(nothing()),
+        calls: vec![nothing(), nothing()],
     }];
     for (packets, plain) in [(1, 0.5), (4, 0.2), (64, 0.2)] {
         for (of, script, wanted) in scripts(plain, 0.7) {
@@ -241,31 +216,60 @@ fn cases() -> Vec<Case> {
     for of in ["others of one word", "block infos", "names of 64 packets", "Japanese names of 64 packets"] {
         all.push(walk(of, MOST));
     }
+    all.extend(crate_cases::all());
     all
 }
 
-/// What a call costs on each side.
-type Costs = Vec<(f64, Option<f64>)>;
+/// What each call of each case costs.
+type Costs = Vec<Vec<f64>>;
 
-fn print_table(cases: &[Case], costs: &Costs, unit: &str) {
+/// A ratio as the tables have it, and beside it the most that is wanted.
+fn ratio(of: f64, to: f64, wanted: Option<f64>) -> String {
+    let wanted =
+        wanted.map_or("".to_string(), |most| format!("{}{}", most, if of / to > most { ", missed" } else { "" }));
+    format!("{:.2} | {}", of / to, wanted)
+}
+
+fn print_table(cases: &[Case], costs: &[Vec<f64>], unit: &str) {
     let places = (unit == "ns") as usize;
     println!("| a call | ours, {} | the Rust | ratio | wanted |", unit);
     println!("|---|---|---|---|---|");
-    for (case, (ours, rust)) in cases.iter().zip(costs) {
-        let ratio = rust.map_or("".to_string(), |rust| format!("{:.2}", ours / rust));
-        let wanted = case.wanted.map_or("".to_string(), |most| {
-            let missed = rust.map_or(false, |rust| ours / rust > most);
-            format!("{}{}", most, if missed { ", missed" } else { "" })
-        });
-        let rust = rust.map_or("".to_string(), |rust| format!("{:.*}", places, rust));
-        println!("| {} | {:.*} | {} | {} | {} |", case.name, places, ours, rust, ratio, wanted);
+    for (case, costs) in cases.iter().zip(costs) {
+        match costs[..] {
+            [ours] => println!("| {} | {:.*} | | | |", case.name, places, ours),
+            [ours, rust] => {
+                let ratio = ratio(ours, rust, case.wanted);
+                println!("| {} | {:.*} | {:.*} | {} |", case.name, places, ours, places, rust, ratio);
+            }
+            _ => (),
+        }
     }
-    println!();
+}
+
+/// The rows of the Rust crate; `idle` is what measuring adds to each of these costs.
+fn print_crate_table(cases: &[Case], costs: &[Vec<f64>], idle: f64, unit: &str) {
+    let places = (unit == "ns") as usize;
+    println!(
+        "| the Rust crate | its call, {} | the C call | the Rust | to the C call | wanted | to the Rust | wanted |",
+        unit
+    );
+    println!("|---|---|---|---|---|---|---|---|");
+    for (case, costs) in cases.iter().zip(costs) {
+        if let [c, rust, own] = costs[..] {
+            let (c, rust, own) = (c - idle, rust - idle, own - idle);
+            let ratios = (ratio(own, c, Some(crate_cases::MOST_TO_C)), ratio(own, rust, case.wanted));
+            print!("| {} | {:.*} | {:.*} | {:.*} |", case.name, places, own, places, c, places, rust);
+            println!(" {} | {} |", ratios.0, ratios.1);
+        }
+    }
+}
+
+fn print_walks(cases: &[Case], costs: &[Vec<f64>], unit: &str) {
     println!("| a walk | {} a word |\n|---|---|", unit);
     let mut a_word = Vec::new();
-    for (case, (ours, _)) in cases.iter().zip(costs) {
+    for (case, costs) in cases.iter().zip(costs) {
         if let Some(words) = case.words {
-            let cost = ours / words as f64;
+            let cost = costs[0] / words as f64;
             println!("| {} | {:.2} |", case.name, cost);
             a_word.push(cost);
         }
@@ -280,6 +284,14 @@ fn print_table(cases: &[Case], costs: &Costs, unit: &str) {
         most / least,
         missed
     );
+}
+
+fn print_tables(cases: &[Case], costs: &[Vec<f64>], idle: f64, unit: &str) {
+    print_table(cases, costs, unit);
+    println!();
+    print_walks(cases, costs, unit);
+    println!();
+    print_crate_table(cases, costs, idle, unit);
 }
 
 /// Calls of a batch: enough for a hundred microseconds.
@@ -305,19 +317,15 @@ fn nanoseconds(call: &mut Call, calls: usize) -> f64 {
     start.elapsed().as_nanos() as f64 / calls as f64
 }
 
-/// Both sides of each case in turn, round after round; the least of all rounds.
+/// The sides of each case in turn, round after round; the least of all rounds.
 fn times(cases: &mut [Case]) -> Costs {
     const ROUNDS: usize = 500;
-    let mut batches = Vec::new();
-    for case in cases.iter_mut() {
-        batches.push((batch(&mut case.ours), case.rust.as_mut().map_or(0, batch)));
-    }
-    let mut least: Costs = cases.iter().map(|case| (f64::MAX, case.rust.as_ref().map(|_| f64::MAX))).collect();
+    let batches: Vec<Vec<usize>> = cases.iter_mut().map(|case| case.calls.iter_mut().map(batch).collect()).collect();
+    let mut least: Costs = batches.iter().map(|calls| vec![f64::MAX; calls.len()]).collect();
     for _ in 0..ROUNDS {
         for (at, case) in cases.iter_mut().enumerate() {
-            least[at].0 = least[at].0.min(nanoseconds(&mut case.ours, batches[at].0));
-            if let (Some(rust), Some(so_far)) = (&mut case.rust, &mut least[at].1) {
-                *so_far = so_far.min(nanoseconds(rust, batches[at].1));
+            for (side, call) in case.calls.iter_mut().enumerate() {
+                least[at][side] = least[at][side].min(nanoseconds(call, batches[at][side]));
             }
         }
     }
@@ -340,9 +348,8 @@ pub extern "C" fn bench_rest() -> u32 {
 
 /// The first calls, each once between the marks, and how many there are; `agree` has warmed them up.
 fn calls(cases: &mut [Case], most: usize) {
-    let each = cases.iter_mut().flat_map(|case| std::iter::once(&mut case.ours).chain(case.rust.as_mut()));
     let mut all = 0;
-    for (at, call) in each.enumerate() {
+    for (at, call) in cases.iter_mut().flat_map(|case| &mut case.calls).enumerate() {
         if at < most {
             bench_call(call);
             bench_rest();
@@ -358,17 +365,16 @@ fn counts(cases: &[Case]) -> Costs {
     std::io::stdin().read_to_string(&mut all).expect("counts");
     let mut numbers = all.split_whitespace().map(|word| word.parse::<f64>().expect("a count"));
     let mut next = || numbers.next().expect("a count for each call");
-    let found: Costs = cases.iter().map(|case| (next(), case.rust.as_ref().map(|_| next()))).collect();
-    let idle = found[0].0;
-    found.into_iter().map(|(ours, rust)| (ours - idle, rust.map(|rust| rust - idle))).collect()
+    let found: Costs = cases.iter().map(|case| case.calls.iter().map(|_| next()).collect()).collect();
+    let idle = found[0][0];
+    found.into_iter().map(|case| case.into_iter().map(|count| count - idle).collect()).collect()
 }
 
-/// That both sides give the same answer, and none refuses.
+/// That all sides give the same answer, and none refuses.
 fn agree(cases: &mut [Case]) {
     for case in cases.iter_mut() {
-        let ours = (case.ours)();
-        let rust = case.rust.as_mut().map_or(ours, |rust| rust());
-        assert!(ours == rust && ours != 0, "{}: ours {:X}, the Rust {:X}", case.name, ours, rust);
+        let answers: Vec<u32> = case.calls.iter_mut().map(|call| call()).collect();
+        assert!(answers.iter().all(|answer| *answer == answers[0] && *answer != 0), "{}: {:X?}", case.name, answers);
     }
 }
 
@@ -385,13 +391,13 @@ fn main() {
         Some("times") => {
             agree(&mut cases);
             let costs = times(&mut cases);
-            print_table(&cases, &costs, "ns");
+            print_tables(&cases, &costs, costs[0][0], "ns");
         }
         Some("calls") => {
             agree(&mut cases);
             calls(&mut cases, words.get(1).map_or(usize::MAX, |word| word.parse().expect("a number")));
         }
-        Some("counts") => print_table(&cases[1..], &counts(&cases)[1..].to_vec(), "instructions"),
+        Some("counts") => print_tables(&cases[1..], &counts(&cases)[1..], 0.0, "instructions"),
         Some("captures") => CAPTURES.iter().for_each(|name| println!("{}", name)),
         Some("capture") => print_capture(words[1].parse().expect("a number")),
         _ => {

@@ -355,6 +355,20 @@ fn fields(random: &mut Random, ask: Ask) {
     }
 }
 
+/// The three choices by each code, with one that is no choice among them: on a block info, on a bad one, on another kind, on
+/// another type, and on no words.
+fn choices(ask: Ask) {
+    let on: [&[u32]; 5] =
+        [&[0xF011_0003, 0, 0, 0], &[0xF011_000C, 0, 0, 0], &[0xF003_0000, 0, 0, 0], &[0x1000_0000], &[]];
+    for words in on {
+        for field in 2..=4 {
+            for code in (0..6).chain([u32::MAX]) {
+                ask(&Question::SetField(0x11, field, [code, 0, 0, 0], words));
+            }
+        }
+    }
+}
+
 /// Every length of text for each text kind: in the room that it needs, in a packet less, and in 66 packets.
 fn text_lengths(random: &mut Random, ask: Ask) {
     let (mut bytes, mut words) = (Vec::new(), Vec::new());
@@ -452,6 +466,7 @@ pub fn run(seed: u64, count: u64, ask: Ask) {
     shapes(&mut counting);
     parts(&mut random, &mut counting);
     fields(&mut random, &mut counting);
+    choices(&mut counting);
     text_lengths(&mut random, &mut counting);
     self::random(&mut random, count.saturating_sub(asked), ask);
 }

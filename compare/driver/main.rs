@@ -1,5 +1,7 @@
 //! Compares the library with the given Rust, question by question.
 
+#[cfg(ours)]
+mod c_face;
 mod classes;
 mod gen;
 #[cfg(ours)]
@@ -39,43 +41,78 @@ fn library() -> Option<Box<dyn Side>> {
 
 /// The library against the plain reading of 01 in every number, place and word; and against the Rust, by classes.
 /// Without the library the plain reading stands in for it.
+struct Comparison<'a> {
+    first: &'a dyn Side,
+    ours: Outcome,
+    rust: Outcome,
+    plain: Outcome,
+    tally: Tally,
+    others: Tally,
+    unlike: u64,
+    rooms: u64,
+}
+
+impl Comparison<'_> {
+    fn take(&mut self, question: &Question) {
+        ask(self.first, question, &mut self.ours);
+        ask(&RustSide, question, &mut self.rust);
+        ask(&Plain, question, &mut self.plain);
+        if self.ours.verdict == Verdict::Unasked {
+            self.others.take(question, &self.plain, &self.rust);
+            return;
+        }
+        self.tally.take(question, &self.ours, &self.rust);
+        if !self.ours.equals(&self.plain) {
+            self.tell_unlike(question);
+        }
+    }
+
+    fn tell_unlike(&mut self, question: &Question) {
+        self.unlike += 1;
+        if self.unlike <= 20 {
+            println!(
+                "not by 01: {}\n    here {}\n    01 {}",
+                show_question(question),
+                show_outcome(&self.ours),
+                show_outcome(&self.plain)
+            );
+        }
+    }
+
+    /// What was read, once more as a whole text: in a room one byte too small, in the one that is needed, and in one larger.
+    fn take_rooms(&mut self, words: &[u32]) {
+        let length = self.plain.text.len();
+        for room in [length.saturating_sub(1), length, length + 1] {
+            self.take(&Question::WholeText(words, room));
+            self.rooms += 1;
+        }
+    }
+}
+
 fn compare(seed: u64, count: u64) -> bool {
     let library = library();
     let first: &dyn Side = library.as_deref().unwrap_or(&Plain);
-    let (mut ours, mut rust, mut plain) = (Outcome::default(), Outcome::default(), Outcome::default());
-    let (mut tally, mut others) = (Tally::default(), Tally::default());
-    let mut unlike = 0u64;
+    let outcome = Outcome::default;
+    let (ours, rust, plain) = (outcome(), outcome(), outcome());
+    let (tally, others) = (Tally::default(), Tally::default());
+    let mut all = Comparison { first, ours, rust, plain, tally, others, unlike: 0, rooms: 0 };
     gen::run(seed, count, &mut |question: &Question| {
-        ask(first, question, &mut ours);
-        ask(&RustSide, question, &mut rust);
-        ask(&Plain, question, &mut plain);
-        if ours.verdict == Verdict::Unasked {
-            others.take(question, &plain, &rust);
-        } else {
-            tally.take(question, &ours, &rust);
-            if !ours.equals(&plain) {
-                unlike += 1;
-                if unlike <= 20 {
-                    println!(
-                        "not by 01: {}\n    here {}\n    01 {}",
-                        show_question(question),
-                        show_outcome(&ours),
-                        show_outcome(&plain)
-                    );
-                }
-            }
+        all.take(question);
+        if let Question::Read(words) = question {
+            all.take_rooms(words);
         }
     });
     match library {
-        Some(_) => println!("the library and the Rust; {} answers of the library are not by 01", unlike),
+        Some(_) => println!("the library and the Rust; {} answers of the library are not by 01", all.unlike),
         None => println!("no library: a plain reading of 01 and the Rust"),
     }
-    tally.print();
-    if others.answers > 0 {
+    println!("{} times what was read was asked for as a whole text in a room about its length", all.rooms);
+    all.tally.print();
+    if all.others.answers > 0 {
         println!("for what the library has no call, the plain reading of 01 and the Rust");
-        others.print();
+        all.others.print();
     }
-    unlike == 0 && tally.unlisted_count == 0 && others.unlisted_count == 0
+    all.unlike == 0 && all.tally.unlisted_count == 0 && all.others.unlisted_count == 0
 }
 
 /// One number for all of the Rust's answers, to hold one build of it against another.
@@ -103,6 +140,7 @@ fn digest(seed: u64, count: u64) -> bool {
 /// About so many questions with the Rust's answers, as many of each sort, for a list that can be replayed without the
 /// Rust. A line starts with `=` where document 01 gives the same answer, else with `/`.
 fn sample(seed: u64, count: u64) -> bool {
+    // Whole texts are not among them: the Rust is not asked for any.
     const SORTS: u64 = 12;
     let room = (count / SORTS) as usize + 1;
     let mut kept: Vec<(usize, Vec<String>)> = (0..SORTS).map(|_| (0, Vec::new())).collect();

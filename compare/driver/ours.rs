@@ -1,104 +1,12 @@
 //! Our side: the C interface of libfrayedbin.a as a `Side`.
 
+use crate::c_face::*;
 use crate::side::{Answer, Side};
 use oracle::oracle::{Message, Part};
 
-#[repr(C)]
-struct Record {
-    status: u32,
-    packets: usize,
-    number: [u32; 9],
-}
-
-#[repr(C)]
-struct Done {
-    refusal: u32,
-    place: usize,
-}
-
-#[repr(C)]
-struct ReadAnswer {
-    refusal: u32,
-    place: usize,
-    record: Record,
-}
-
-#[repr(C)]
-struct WalkAnswer {
-    found: u32,
-    refusal: u32,
-    place: usize,
-    ump_type: u32,
-    size: usize,
-    next: usize,
-    record: Record,
-}
-
-#[repr(C)]
-struct PacketAnswer {
-    refusal: u32,
-    place: usize,
-    format: u32,
-    word: [u32; 4],
-}
-
-#[repr(C)]
-struct SizeAnswer {
-    refusal: u32,
-    place: usize,
-    words: usize,
-}
-
-#[repr(C)]
-struct StepAnswer {
-    byte: u32,
-    packet: usize,
-    byte_number: usize,
-}
-
-extern "C" {
-    fn frayedbin_read(words: *const u32, length: usize) -> ReadAnswer;
-    fn frayedbin_walk(words: *const u32, length: usize, position: usize) -> WalkAnswer;
-    fn frayedbin_packet(words: *const u32, length: usize) -> PacketAnswer;
-    fn frayedbin_message_size(words: *const u32, length: usize) -> SizeAnswer;
-    fn frayedbin_next_byte(words: *const u32, length: usize, packet: usize, byte: usize) -> StepAnswer;
-    fn frayedbin_fresh(words: *mut u32, length: usize, status: u32) -> Done;
-    fn frayedbin_endpoint_name_set_name(words: *mut u32, length: usize, text: *const u8, text_length: usize) -> Done;
-    fn frayedbin_product_instance_id_set_id(
-        words: *mut u32,
-        length: usize,
-        text: *const u8,
-        text_length: usize,
-    ) -> Done;
-    fn frayedbin_function_block_name_set_name(
-        words: *mut u32,
-        length: usize,
-        text: *const u8,
-        text_length: usize,
-    ) -> Done;
-    fn frayedbin_device_identity_set_device_manufacturer(
-        words: *mut u32,
-        length: usize,
-        a: u32,
-        b: u32,
-        c: u32,
-    ) -> Done;
-    fn frayedbin_device_identity_set_software_version(
-        words: *mut u32,
-        length: usize,
-        a: u32,
-        b: u32,
-        c: u32,
-        d: u32,
-    ) -> Done;
-}
-
-const FOUND_END: u32 = 0;
-const FOUND_OTHER: u32 = 1;
-const FOUND_MESSAGE: u32 = 2;
-
 pub struct Ours;
 
+/// The record as a message; where a number after the kind's last, or a reserved one, is not 0, its status is one of no kind.
 fn message(record: &Record) -> Message {
     let count = match record.status {
         0x00 => 7,
@@ -107,7 +15,9 @@ fn message(record: &Record) -> Message {
         0x12 => 1,
         _ => 0,
     };
-    Message { status: record.status as u16, packets: record.packets, count, fields: record.number }
+    let is_clean = record.number[count..].iter().chain(&record.reserved).all(|number| *number == 0);
+    let status = if is_clean { record.status as u16 } else { u16::MAX };
+    Message { status, packets: record.packets, count, fields: record.number }
 }
 
 fn is_text_kind(status: u32) -> bool {
@@ -181,6 +91,11 @@ impl Side for Ours {
         Answer::Done((next, a.packet as u32, a.byte_number as u32))
     }
 
+    fn whole_text(&self, words: &[u32], lent: &mut [u8]) -> (Answer<()>, usize) {
+        let a = unsafe { frayedbin_text(words.as_ptr(), words.len(), lent.as_mut_ptr(), lent.len()) };
+        (done(a.refusal, a.place, || ()), a.length)
+    }
+
     fn fresh(&self, status: u16, words: &mut [u32]) -> Answer<()> {
         let a = unsafe { frayedbin_fresh(words.as_mut_ptr(), words.len(), status as u32) };
         done(a.refusal, a.place, || ())
@@ -214,70 +129,5 @@ impl Side for Ours {
 
     fn set_part(&self, _: Part, _: u32, _: usize, _: u32) -> Answer<u32> {
         Answer::Unasked
-    }
-}
-
-/// Each setting of one value, by the kind's status and the field's number there: its declaration, and its call. A flag is a bool
-/// in the call, and other numbers cannot be handed over.
-macro_rules! settings_of_one_value {
-    ($(($status:literal, $field:literal) $name:ident($type:ident);)+) => {
-        extern "C" {
-            $(fn $name(words: *mut u32, length: usize, v: $type) -> Done;)+
-        }
-
-        fn is_flag(status: u16, field: usize) -> bool {
-            match (status, field) {
-                $(($status, $field) => stringify!($type) == "bool",)+
-                _ => false,
-            }
-        }
-
-        unsafe fn set_one(status: u16, field: usize, v: u32, at: *mut u32, length: usize) -> Option<Done> {
-            match (status, field) {
-                $(($status, $field) => Some($name(at, length, settings_of_one_value!(@handed v as $type))),)+
-                _ => None,
-            }
-        }
-    };
-    (@handed $v:ident as bool) => { $v == 1 };
-    (@handed $v:ident as u32) => { $v };
-}
-
-settings_of_one_value! {
-    (0x00, 0) frayedbin_endpoint_discovery_set_ump_version_major(u32);
-    (0x00, 1) frayedbin_endpoint_discovery_set_ump_version_minor(u32);
-    (0x00, 2) frayedbin_endpoint_discovery_set_request_endpoint_info(bool);
-    (0x00, 3) frayedbin_endpoint_discovery_set_request_device_identity(bool);
-    (0x00, 4) frayedbin_endpoint_discovery_set_request_endpoint_name(bool);
-    (0x00, 5) frayedbin_endpoint_discovery_set_request_product_instance_id(bool);
-    (0x00, 6) frayedbin_endpoint_discovery_set_request_stream_configuration(bool);
-    (0x01, 0) frayedbin_endpoint_info_set_ump_version_major(u32);
-    (0x01, 1) frayedbin_endpoint_info_set_ump_version_minor(u32);
-    (0x01, 2) frayedbin_endpoint_info_set_static_function_blocks(bool);
-    (0x01, 3) frayedbin_endpoint_info_set_supports_midi2_protocol(bool);
-    (0x01, 4) frayedbin_endpoint_info_set_supports_midi1_protocol(bool);
-    (0x01, 5) frayedbin_endpoint_info_set_supports_receiving_jr_timestamps(bool);
-    (0x01, 6) frayedbin_endpoint_info_set_supports_sending_jr_timestamps(bool);
-    (0x01, 7) frayedbin_endpoint_info_set_number_of_function_blocks(u32);
-    (0x02, 1) frayedbin_device_identity_set_device_family(u32);
-    (0x02, 2) frayedbin_device_identity_set_device_family_model_number(u32);
-    (0x11, 0) frayedbin_function_block_info_set_active(bool);
-    (0x11, 1) frayedbin_function_block_info_set_function_block_number(u32);
-    (0x11, 2) frayedbin_function_block_info_set_ui_hint(u32);
-    (0x11, 3) frayedbin_function_block_info_set_midi1_port(u32);
-    (0x11, 4) frayedbin_function_block_info_set_direction(u32);
-    (0x11, 5) frayedbin_function_block_info_set_first_group(u32);
-    (0x11, 6) frayedbin_function_block_info_set_number_of_groups_spanned(u32);
-    (0x11, 7) frayedbin_function_block_info_set_midi_ci_version(u32);
-    (0x11, 8) frayedbin_function_block_info_set_max_number_of_midi_ci_streams(u32);
-    (0x12, 0) frayedbin_function_block_name_set_function_block(u32);
-}
-
-/// The setting of a field, by kind and number.
-unsafe fn set(status: u16, field: usize, v: &[u32; 4], at: *mut u32, length: usize) -> Option<Done> {
-    match (status, field) {
-        (0x02, 0) => Some(frayedbin_device_identity_set_device_manufacturer(at, length, v[0], v[1], v[2])),
-        (0x02, 3) => Some(frayedbin_device_identity_set_software_version(at, length, v[0], v[1], v[2], v[3])),
-        _ => set_one(status, field, v[0], at, length),
     }
 }

@@ -239,21 +239,16 @@ fn slots(status: u16, field: usize) -> Option<&'static [(usize, u32, u32)]> {
     }
 }
 
-/// A choice comes as a code: one that names no choice is refused before the words are looked at.
-fn named(status: u16, field: usize, code: u32) -> Result<(), Refusal> {
-    match (status, field, code) {
-        (0x11, 2..=4, 4..) => Err((12, 0)),
-        (0x11, 3, 3) => Err((9, 0)),
-        (0x11, 4, 0) => Err((10, 0)),
-        _ => Ok(()),
-    }
+/// A choice comes as a code, and not every code that its bits hold names one.
+fn names_no_choice(status: u16, field: usize, code: u32) -> bool {
+    matches!((status, field, code), (0x11, 3, 3) | (0x11, 4, 0))
 }
 
 fn set_field(status: u16, field: usize, v: &[u32; 4], words: &mut [u32]) -> Result<(), Refusal> {
-    named(status, field, v[0])?;
     let message = acted_on(words, status)?;
     let slots = slots(status, field).ok_or((13, 0))?;
-    if slots.iter().zip(v).any(|((_, _, width), v)| *v >= 1 << width) {
+    let is_too_large = slots.iter().zip(v).any(|((_, _, width), v)| *v >= 1 << width);
+    if is_too_large || names_no_choice(status, field, v[0]) {
         return Err((12, 0));
     }
     for packet in words[..message.packets * 4].chunks_exact_mut(4) {
@@ -262,6 +257,20 @@ fn set_field(status: u16, field: usize, v: &[u32; 4], words: &mut [u32]) -> Resu
         }
     }
     Ok(())
+}
+
+/// The whole text of one message into a lent room, and its length, where it has one.
+fn whole_text(words: &[u32], lent: &mut [u8]) -> (Result<(), Refusal>, usize) {
+    let mut text = Vec::new();
+    match read(words, &mut text) {
+        Err(refusal) => (Err(refusal), 0),
+        Ok(message) if !is_text_kind(message.status) => (Err((13, 0)), 0),
+        Ok(_) if lent.len() < text.len() => (Err((14, 0)), text.len()),
+        Ok(_) => {
+            lent[..text.len()].copy_from_slice(&text);
+            (Ok(()), text.len())
+        }
+    }
 }
 
 fn step(words: &[u32], packet: usize, byte: usize) -> (Option<u8>, usize, usize) {
@@ -337,6 +346,11 @@ impl Side for Plain {
     fn step(&self, words: &[u32], packet: u32, byte: u32) -> Answer<(Option<u8>, u32, u32)> {
         let (next, packet, byte) = step(words, packet as usize, byte as usize);
         Answer::Done((next, packet as u32, byte as u32))
+    }
+
+    fn whole_text(&self, words: &[u32], lent: &mut [u8]) -> (Answer<()>, usize) {
+        let (result, length) = whole_text(words, lent);
+        (answer(result), length)
     }
 
     fn fresh(&self, status: u16, words: &mut [u32]) -> Answer<()> {

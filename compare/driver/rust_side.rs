@@ -57,6 +57,11 @@ impl Side for RustSide {
         }
     }
 
+    /// The Rust gives text as a `String`, with room of its own: what it says is compared as that of a message that is read.
+    fn whole_text(&self, _: &[u32], _: &mut [u8]) -> (Answer<()>, usize) {
+        (Answer::Unasked, 0)
+    }
+
     /// The Rust's new message has one packet; in a longer buffer the packets after it are zeroed here, not by the Rust.
     fn fresh(&self, status: u16, words: &mut [u32]) -> Answer<()> {
         let whole = words.len() / 4 * 4;

@@ -25,6 +25,8 @@ pub trait Side {
     fn text(&self, words: &[u32], text: &mut Vec<u8>) -> Answer<()>;
     /// One byte of text from a place: the byte, and the place after it.
     fn step(&self, words: &[u32], packet: u32, byte: u32) -> Answer<(Option<u8>, u32, u32)>;
+    /// The whole text of one message into a lent room, and its length.
+    fn whole_text(&self, words: &[u32], lent: &mut [u8]) -> (Answer<()>, usize);
     fn fresh(&self, status: u16, words: &mut [u32]) -> Answer<()>;
     fn set_text(&self, status: u16, words: &mut [u32], text: &[u8]) -> Answer<()>;
     /// The same in a buffer that holds the message alone and grows or shrinks to what the text needs.
@@ -57,6 +59,8 @@ pub enum Question<'a> {
     Size(&'a [u32]),
     Text(&'a [u32]),
     Step(&'a [u32], u32, u32),
+    /// With a room of so many bytes.
+    WholeText(&'a [u32], usize),
     Fresh(u16, &'a [u32]),
     SetText(u16, &'a [u32], &'a [u8]),
     Grow(u16, &'a [u32], &'a [u8]),
@@ -81,11 +85,12 @@ impl Question<'_> {
             Question::SetField(..) => 9,
             Question::Part(..) => 10,
             Question::SetPart(..) => 11,
+            Question::WholeText(..) => 12,
         }
     }
 }
 
-/// What came of a question: the answer's numbers, the text, and the lent words afterwards.
+/// What came of a question: the answer's numbers, the text, and the lent words or bytes afterwards.
 #[derive(Clone, Debug, Default, PartialEq, Eq)]
 pub struct Outcome {
     pub verdict: Verdict,
@@ -120,10 +125,12 @@ impl Outcome {
         }
     }
 
-    /// The same number and place too, and every lent word.
+    /// The same number and place too, and every lent word; a refusal may come with numbers, such as the room that is needed.
     pub fn equals(&self, other: &Outcome) -> bool {
         match (self.verdict, other.verdict) {
-            (Verdict::Refused(n, p, _), Verdict::Refused(m, q, _)) => (n, p) == (m, q) && self.agrees(other),
+            (Verdict::Refused(n, p, _), Verdict::Refused(m, q, _)) => {
+                (n, p) == (m, q) && self.numbers == other.numbers && self.agrees(other)
+            }
             _ => self.agrees(other),
         }
     }
@@ -147,6 +154,9 @@ fn put_message(m: Message, numbers: &mut Vec<u32>) {
     numbers.extend_from_slice(&m.fields[..m.count]);
 }
 
+/// What a lent byte is before the call; no text has it.
+const UNTOUCHED: u8 = 0xFF;
+
 /// Asks one side, and writes its answer over the outcome given.
 pub fn ask(side: &dyn Side, question: &Question, out: &mut Outcome) {
     out.numbers.clear();
@@ -161,6 +171,13 @@ pub fn ask(side: &dyn Side, question: &Question, out: &mut Outcome) {
             lent.extend_from_slice(words);
             out.take(ask_to_write(side, question, &mut lent), |_, _| ());
             out.words = lent;
+        }
+        Question::WholeText(words, room) => {
+            let mut lent = vec![UNTOUCHED; *room];
+            let (answer, length) = side.whole_text(words, &mut lent);
+            out.take(answer, |_, _| ());
+            out.numbers.push(length as u32);
+            out.words.extend(lent.into_iter().map(u32::from));
         }
         _ => {
             let mut text = std::mem::take(&mut out.text);

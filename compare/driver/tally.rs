@@ -44,6 +44,7 @@ pub fn show_question(question: &Question) -> String {
         Question::Size(words) => format!("size {}", hex_words(words)),
         Question::Text(words) => format!("text {}", hex_words(words)),
         Question::Step(words, packet, byte) => format!("step {} @ {} {}", hex_words(words), packet, byte),
+        Question::WholeText(words, room) => format!("whole-text {} in {}", hex_words(words), room),
         Question::Fresh(status, words) => format!("fresh {} {}", kind_name(*status), hex_words(words)),
         Question::SetText(status, words, text) => {
             format!("set-text {} {} {}", kind_name(*status), hex_bytes(text), hex_words(words))
@@ -77,6 +78,7 @@ fn lent(question: &Question) -> (Vec<u32>, usize) {
             (w.to_vec(), 0)
         }
         Question::Step(w, _, _) | Question::Fresh(_, w) | Question::SetField(_, _, _, w) => (w.to_vec(), 0),
+        Question::WholeText(w, _) => (w.to_vec(), 0),
         Question::SetText(_, w, text) | Question::Grow(_, w, text) => (w.to_vec(), text.len()),
         Question::Part(_, word, index) => (vec![*index as u32, *word], 0),
         Question::SetPart(_, word, index, v) => (vec![*v, *index as u32, *word], 0),

@@ -191,22 +191,20 @@ fn direction_code(direction: Direction) -> u32 {
     }
 }
 
-fn block(m: &FunctionBlockInfo<&[u32]>) -> Message {
-    message(
-        0x11,
-        1,
-        &[
-            m.active() as u32,
-            u32::from(m.function_block_number()),
-            hint_code(m.ui_hint()),
-            port_code(m.midi1_port()),
-            direction_code(m.direction()),
-            u32::from(m.first_group()),
-            m.number_of_groups_spanned() as u32,
-            m.midi_ci_version() as u32,
-            m.max_number_of_midi_ci_streams() as u32,
-        ],
-    )
+/// The fields of a block info. The benchmark adds them up, and a call in between would cost it a store of each.
+#[inline(always)]
+pub(crate) fn block(m: &FunctionBlockInfo<&[u32]>) -> [u32; 9] {
+    [
+        m.active() as u32,
+        u32::from(m.function_block_number()),
+        hint_code(m.ui_hint()),
+        port_code(m.midi1_port()),
+        direction_code(m.direction()),
+        u32::from(m.first_group()),
+        m.number_of_groups_spanned() as u32,
+        m.midi_ci_version() as u32,
+        m.max_number_of_midi_ci_streams() as u32,
+    ]
 }
 
 /// A message and its text, or the error of the first property that refuses it.
@@ -231,7 +229,7 @@ pub fn read(words: &[u32], text: &mut Vec<u8>) -> Reply<Message> {
                 text.extend_from_slice(m.name().as_bytes());
                 message(0x04, m.size() / 4, &[])
             }
-            UmpStream::FunctionBlockInfo(m) => block(&m),
+            UmpStream::FunctionBlockInfo(m) => message(0x11, 1, &block(&m)),
             UmpStream::FunctionBlockName(m) => {
                 text.extend_from_slice(m.name().as_bytes());
                 message(0x12, m.size() / 4, &[m.function_block() as u32])

@@ -1,9 +1,26 @@
-//! Stand-in for schemas: a value read and written through the masks that the given files name, by the standard.
+//! Stand-in for schemas: a value read and written through the masks that the given files name, by the standard. A field costs
+//! a mask and a shift, so that the benchmark holds nothing of a stand-in against the Rust.
 
 use crate::ux::{u14, u4, u7};
 
 /// The bits of a field, a mask a word.
 pub struct Ump<const A: u32, const B: u32, const C: u32, const D: u32>;
+
+impl<const A: u32, const B: u32, const C: u32, const D: u32> Ump<A, B, C, D> {
+    /// Each field of the given files has its bits in one word.
+    const WORD: usize = (A == 0) as usize + (A | B == 0) as usize + (A | B | C == 0) as usize;
+    const MASK: u32 = A | B | C | D;
+    const LOW: u32 = Self::MASK.trailing_zeros();
+
+    /// The field's bits, the lowest at bit 0.
+    fn get(buffer: &[u32]) -> u32 {
+        (buffer[Self::WORD] & Self::MASK) >> Self::LOW
+    }
+
+    fn put(buffer: &mut [u32], bits: u32) {
+        buffer[Self::WORD] = buffer[Self::WORD] & !Self::MASK | bits << Self::LOW;
+    }
+}
 
 /// Values that a field of this schema holds.
 pub trait UmpSchemaRepr<S> {
@@ -11,40 +28,23 @@ pub trait UmpSchemaRepr<S> {
     fn read(buffer: &[u32]) -> Self;
 }
 
-/// The bits under the masks, highest first, as one number.
-fn gather(buffer: &[u32], masks: [u32; 4]) -> u32 {
-    let mut value = 0;
-    for (word, mask) in masks.iter().enumerate() {
-        for bit in (0..32).rev().filter(|bit| mask >> bit & 1 == 1) {
-            value = value << 1 | buffer[word] >> bit & 1;
-        }
-    }
-    value
+/// A 14-bit number in two octets: the standard has its low seven bits in the first.
+fn in_octets(value: u14) -> u32 {
+    (u32::from(value) & 0x7F) << 8 | u32::from(value) >> 7
 }
 
-/// Puts a number's bits under the masks, its lowest in the lowest.
-fn spread(buffer: &mut [u32], masks: [u32; 4], mut value: u32) {
-    for (word, mask) in masks.iter().enumerate().rev() {
-        for bit in (0..32).filter(|bit| mask >> bit & 1 == 1) {
-            buffer[word] = buffer[word] & !(1 << bit) | (value & 1) << bit;
-            value >>= 1;
-        }
-    }
-}
-
-/// A 14-bit number with its septets exchanged: the standard has the low seven bits in the first octet.
-fn exchanged(value: u32) -> u32 {
-    value >> 7 & 0x7F | (value & 0x7F) << 7
+fn of_octets(bits: u32) -> u14 {
+    u14::new((bits >> 8 | (bits & 0x7F) << 7) as u16)
 }
 
 macro_rules! repr {
     ($type:ty, $into:expr, $from:expr) => {
         impl<const A: u32, const B: u32, const C: u32, const D: u32> UmpSchemaRepr<Ump<A, B, C, D>> for $type {
             fn write(buffer: &mut [u32], value: Self) {
-                spread(buffer, [A, B, C, D], $into(value));
+                Ump::<A, B, C, D>::put(buffer, $into(value));
             }
             fn read(buffer: &[u32]) -> Self {
-                $from(gather(buffer, [A, B, C, D]))
+                $from(Ump::<A, B, C, D>::get(buffer))
             }
         }
     };
@@ -54,4 +54,4 @@ repr!(bool, |v: bool| v as u32, |v| v != 0);
 repr!(u8, |v: u8| v as u32, |v| v as u8);
 repr!(u4, |v: u4| u32::from(v), |v| u4::new(v as u8));
 repr!(u7, |v: u7| u32::from(v), |v| u7::new(v as u8));
-repr!(u14, |v: u14| exchanged(u32::from(v)), |v| u14::new(exchanged(v) as u16));
+repr!(u14, in_octets, of_octets);
