@@ -2,7 +2,7 @@
 
 use crate::sys::{self, Numbers};
 use crate::value::Value;
-use crate::{Direction, Kind, Midi1Port, Refusal, UiHint};
+use crate::{Direction, Error, Kind, Midi1Port, Refusal, UiHint};
 
 /// A message's record: its kind, its packets and its numbers.
 ///
@@ -30,7 +30,8 @@ use crate::{Direction, Kind, Midi1Port, Refusal, UiHint};
 #[must_use = "a setting on a record hands it back and changes nothing else"]
 pub struct Record {
     kind: Kind,
-    numbers: Numbers,
+    packets: usize,
+    number: [u32; 9],
 }
 
 /// A method for each setting.
@@ -38,8 +39,10 @@ macro_rules! settings {
     ($($(#[$doc:meta])+ $name:ident($type:ty) by $call:ident;)+) => {
         impl Record {
             $($(#[$doc])+
+            #[inline]
             pub fn $name(self, value: $type) -> Result<Record, Refusal> {
-                Record::of(sys::$call(self.numbers, value.crossed())?)
+                let numbers = sys::$call(self.crossed(), value.crossed()).record()?;
+                Ok(Record::with(self.kind, &numbers))
             })+
         }
     };
@@ -48,67 +51,103 @@ macro_rules! settings {
 impl Record {
     /// The record of a fresh message: one packet, and all fields 0 but a block info's direction,
     /// which is [`Direction::Bidirectional`].
+    #[inline]
     pub fn new(kind: Kind) -> Record {
         let mut number = [0; 9];
         if kind == Kind::FunctionBlockInfo {
             number[4] = Direction::default().crossed();
         }
-        let status = kind.status().into();
         let packets = 1;
         Record {
             kind,
-            numbers: Numbers {
-                status,
-                packets,
-                number,
-            },
+            packets,
+            number,
         }
     }
 
     /// A record of numbers that came over.
-    pub(crate) fn of(numbers: Numbers) -> Result<Record, Refusal> {
+    #[inline]
+    pub(crate) fn of(numbers: &Numbers) -> Result<Record, Refusal> {
         let kind = Kind::try_from(numbers.status as u16)?;
-        Ok(Record { kind, numbers })
+        Ok(Record::with(kind, numbers))
+    }
+
+    /// A record of numbers that came over and should be of a kind.
+    #[inline]
+    pub(crate) fn of_kind(numbers: &Numbers, kind: Kind) -> Result<Record, Error> {
+        if numbers.status == kind.status().into() {
+            return Ok(Record::with(kind, numbers));
+        }
+        let expected = kind;
+        let found = Kind::try_from(numbers.status as u16)?;
+        Err(Error::WrongKind { expected, found })
+    }
+
+    #[inline]
+    fn with(kind: Kind, numbers: &Numbers) -> Record {
+        Record {
+            kind,
+            packets: numbers.packets,
+            number: numbers.number,
+        }
+    }
+
+    /// The record as it crosses.
+    #[inline]
+    fn crossed(&self) -> Numbers {
+        Numbers {
+            status: self.kind.status().into(),
+            packets: self.packets,
+            number: self.number,
+            reserved: [0; 5],
+        }
     }
 
     /// The field whose numbers start at a place.
+    #[inline]
     pub(crate) fn field<T: Value>(&self, at: usize) -> T {
-        T::of(&self.numbers.number[at..])
+        T::of(&self.number[at..])
+    }
+
+    /// Keeps a field that the library has set: a setting changes nothing else of a message.
+    #[inline]
+    pub(crate) fn keep<T: Value>(&mut self, at: usize, value: T) {
+        value.put(&mut self.number[at..]);
+    }
+
+    /// Keeps the packets of a text that the library has set.
+    #[inline]
+    pub(crate) fn keep_packets(&mut self, packets: usize) {
+        self.packets = packets;
     }
 
     /// The message's kind.
+    #[inline]
     #[must_use]
     pub fn kind(&self) -> Kind {
         self.kind
     }
 
     /// How many packets the message takes, 1 to 64.
+    #[inline]
     #[must_use]
     pub fn packets(&self) -> usize {
-        self.numbers.packets
+        self.packets
     }
 
     /// The numbers of the kind's fields, in the order of its methods: a flag is 0 or 1, a
     /// choice is its code, a manufacturer is three numbers and a software version four.
+    #[inline]
     #[must_use]
     pub fn numbers(&self) -> &[u32] {
-        &self.numbers.number[..self.kind.numbers()]
+        &self.number[..self.kind.numbers()]
     }
 
     /// Writes the record as a fresh message with its fields. A text kind is refusal 13, and a
     /// buffer with no whole packet refusal 14.
+    #[inline]
     pub fn write(&self, words: &mut [u32]) -> Result<(), Refusal> {
-        sys::write(words, self.numbers)
-    }
-
-    /// Refusal 13: a record holds no text.
-    pub fn set_name(self, name: impl AsRef<[u8]>) -> Result<Record, Refusal> {
-        Record::of(sys::frayedbin_record_set_name(self.numbers, name.as_ref())?)
-    }
-
-    /// Refusal 13: a record holds no text.
-    pub fn set_id(self, id: impl AsRef<[u8]>) -> Result<Record, Refusal> {
-        Record::of(sys::frayedbin_record_set_id(self.numbers, id.as_ref())?)
+        sys::write(words, self.crossed()).done()
     }
 }
 
@@ -168,4 +207,25 @@ settings! {
     set_max_number_of_midi_ci_streams(u8) by frayedbin_record_set_max_number_of_midi_ci_streams;
     /// Sets the number of the block that a function block name is about.
     set_function_block(u8) by frayedbin_record_set_function_block;
+}
+
+#[cfg(test)]
+mod tests {
+    use super::*;
+
+    /// A new record is what the library says of a fresh message.
+    #[test]
+    fn new_records_are_the_librarys() {
+        for kind in (0..=0x3FF).filter_map(|status| Kind::try_from(status).ok()) {
+            let numbers = sys::record_fresh(kind.status().into()).record();
+            assert_eq!(
+                numbers.and_then(|numbers| Record::of(&numbers)),
+                Ok(Record::new(kind))
+            );
+        }
+        assert_eq!(
+            sys::record_fresh(0x3FF).record().err(),
+            Some(Refusal::UnknownStatus)
+        );
+    }
 }
