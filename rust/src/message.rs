@@ -1,22 +1,69 @@
-//! What every kind has: a buffer, and the record of the message that it starts with.
+//! What every kind has: a buffer, and what the message that it starts with says.
 
-use crate::sys::{self, Answer, FOUND_END, FOUND_OTHER};
+use crate::sys::{self, Answer, Numbers, FOUND_END, FOUND_OTHER};
+use crate::value::Value;
 use crate::{Buffer, Error, Kind, Record, Refusal, MOST_PACKETS};
 
-/// A buffer that starts with a well-formed message, and that message's record.
+/// A buffer that starts with a well-formed message, and that message's packets and numbers.
 #[derive(Clone, Copy)]
 pub struct Message<B> {
-    pub buffer: B,
-    pub record: Record,
+    buffer: B,
+    number: [u32; 9],
+    packets: u8,
+}
+
+impl<B> Message<B> {
+    #[inline]
+    pub fn of(buffer: B, packets: usize, number: [u32; 9]) -> Message<B> {
+        let packets = packets as u8;
+        Message {
+            buffer,
+            number,
+            packets,
+        }
+    }
+
+    /// A message whose record came over and should be of a kind.
+    #[inline]
+    fn of_kind(buffer: B, record: &Numbers, kind: Kind) -> Result<Message<B>, Error> {
+        if record.status == kind.status().into() {
+            let number = sys::copied(&record.number, kind.numbers());
+            return Ok(Message::of(buffer, record.packets, number));
+        }
+        let expected = kind;
+        let found = Kind::try_from(record.status as u16)?;
+        Err(Error::WrongKind { expected, found })
+    }
+
+    #[inline]
+    pub fn packets(&self) -> usize {
+        self.packets.into()
+    }
+
+    #[inline]
+    pub fn record(&self, kind: Kind) -> Record {
+        Record::with(kind, self.packets(), self.number)
+    }
+
+    #[inline]
+    pub fn into_buffer(self) -> B {
+        self.buffer
+    }
+
+    /// The field whose numbers start at a place.
+    #[inline]
+    pub fn field<T: Value>(&self, at: usize) -> T {
+        T::of(&self.number[at..])
+    }
 }
 
 impl<B: AsRef<[u32]>> Message<B> {
     /// Reads a buffer that should be one message of a kind.
     #[inline]
     pub fn read(buffer: B, kind: Kind) -> Result<Message<B>, Error> {
-        let numbers = sys::read(buffer.as_ref()).record()?;
-        let record = Record::of_kind(&numbers, kind)?;
-        Ok(Message { buffer, record })
+        let answer = sys::read(buffer.as_ref());
+        Refusal::check(answer.refusal, answer.place)?;
+        Message::of_kind(buffer, &answer.record, kind)
     }
 
     /// Takes a buffer that should start with a message of a kind. Refused as a setting on it would
@@ -29,15 +76,30 @@ impl<B: AsRef<[u32]>> Message<B> {
             FOUND_OTHER => return Err(Refusal::WrongType(0).into()),
             _ => Refusal::check(answer.refusal, answer.place)?,
         }
-        let record = Record::of_kind(&answer.record, kind)?;
-        Ok(Message { buffer, record })
+        Message::of_kind(buffer, &answer.record, kind)
     }
 
     /// The message's words.
     #[inline]
     pub fn data(&self) -> &[u32] {
         let words = self.buffer.as_ref();
-        words.get(..self.record.packets() * 4).unwrap_or(words)
+        words.get(..self.packets() * 4).unwrap_or(words)
+    }
+}
+
+impl<B: AsMut<[u32]>> Message<B> {
+    /// Sets the field whose numbers start at a place, and keeps it: a setting changes nothing else
+    /// of what a message says.
+    #[inline]
+    pub fn set<T: Value>(
+        &mut self,
+        at: usize,
+        value: T,
+        call: impl FnOnce(&mut [u32], T::Crossed) -> Answer,
+    ) -> Result<(), Refusal> {
+        call(self.buffer.as_mut(), value.crossed()).done()?;
+        value.put(&mut self.number[at..]);
+        Ok(())
     }
 }
 
@@ -47,8 +109,7 @@ impl<B: Buffer> Message<B> {
     pub fn new(mut buffer: B, kind: Kind) -> Result<Message<B>, Error> {
         buffer.resize(4);
         sys::fresh(buffer.as_mut(), kind.status().into()).done()?;
-        let record = Record::new(kind);
-        Ok(Message { buffer, record })
+        Ok(Message::of(buffer, 1, Record::fresh_numbers(kind)))
     }
 
     /// Sets a text of which a packet has room for so many bytes. A buffer that grows has the length
@@ -61,7 +122,7 @@ impl<B: Buffer> Message<B> {
         call: impl FnOnce(&mut [u32], &[u8]) -> Answer,
     ) -> Result<(), Error> {
         let before = self.buffer.as_ref().len();
-        let packets = (text.len().saturating_sub(1)) / per_packet + 1;
+        let packets = text.len().saturating_sub(1) / per_packet + 1;
         let words = packets * 4;
         if packets <= MOST_PACKETS && words > before {
             self.buffer.resize(words);
@@ -70,8 +131,10 @@ impl<B: Buffer> Message<B> {
             self.buffer.resize(before);
             return Err(self.text_refused(refusal, text.len(), per_packet));
         }
-        self.buffer.resize(words);
-        self.record.keep_packets(packets);
+        if words < before {
+            self.buffer.resize(words);
+        }
+        self.packets = packets as u8;
         Ok(())
     }
 
@@ -128,14 +191,14 @@ macro_rules! kind {
             /// What the message says, as a record.
             #[inline]
             pub fn record(&self) -> $crate::Record {
-                self.0.record
+                self.0.record($crate::Kind::$kind)
             }
 
             /// Gives the whole buffer back.
             #[inline]
             #[must_use]
             pub fn into_buffer(self) -> B {
-                self.0.buffer
+                self.0.into_buffer()
             }
         }
 
@@ -194,7 +257,7 @@ macro_rules! fields {
             #[inline]
             #[must_use]
             pub fn $get(&self) -> $type {
-                self.0.record.field($at)
+                self.0.field($at)
             })*
         }
 
@@ -202,10 +265,7 @@ macro_rules! fields {
             $(#[doc = concat!("Sets [`", stringify!($get), "`](Self::", stringify!($get), ").")]
             #[inline]
             pub fn $set(&mut self, value: $type) -> Result<(), $crate::Refusal> {
-                use $crate::value::Value;
-                $crate::sys::$call(self.0.buffer.as_mut(), value.crossed()).done()?;
-                self.0.record.keep($at, value);
-                Ok(())
+                self.0.set($at, value, $crate::sys::$call)
             })*
         }
 
@@ -232,7 +292,7 @@ macro_rules! text {
             #[inline]
             #[must_use]
             pub fn $get(&self) -> String {
-                $crate::text::string(self.data(), self.0.record.packets() * $per_packet)
+                $crate::text::string(self.data(), self.0.packets() * $per_packet)
             }
 
             #[doc = concat!("The bytes of the ", $what, ", in order and without zeros.")]

@@ -2,7 +2,7 @@
 
 use crate::sys::{self, Numbers};
 use crate::value::Value;
-use crate::{Direction, Error, Kind, Midi1Port, Refusal, UiHint};
+use crate::{Direction, Kind, Midi1Port, Refusal, UiHint};
 
 /// A message's record: its kind, its packets and its numbers.
 ///
@@ -30,8 +30,7 @@ use crate::{Direction, Error, Kind, Midi1Port, Refusal, UiHint};
 #[must_use = "a setting on a record hands it back and changes nothing else"]
 pub struct Record {
     kind: Kind,
-    packets: usize,
-    number: [u32; 9],
+    numbers: Numbers,
 }
 
 /// A method for each setting.
@@ -41,8 +40,9 @@ macro_rules! settings {
             $($(#[$doc])+
             #[inline]
             pub fn $name(self, value: $type) -> Result<Record, Refusal> {
-                let numbers = sys::$call(self.crossed(), value.crossed()).record()?;
-                Ok(Record::with(self.kind, &numbers))
+                let answer = sys::$call(self.numbers, value.crossed());
+                Refusal::check(answer.refusal, answer.place)?;
+                Ok(Record::of(self.kind, &answer.record))
             })+
         }
     };
@@ -53,72 +53,39 @@ impl Record {
     /// which is [`Direction::Bidirectional`].
     #[inline]
     pub fn new(kind: Kind) -> Record {
+        Record::with(kind, 1, Record::fresh_numbers(kind))
+    }
+
+    /// The numbers of a fresh message.
+    #[inline]
+    pub(crate) fn fresh_numbers(kind: Kind) -> [u32; 9] {
         let mut number = [0; 9];
         if kind == Kind::FunctionBlockInfo {
             number[4] = Direction::default().crossed();
         }
-        let packets = 1;
-        Record {
-            kind,
-            packets,
-            number,
-        }
+        number
     }
 
     /// A record of numbers that came over.
     #[inline]
-    pub(crate) fn of(numbers: &Numbers) -> Result<Record, Refusal> {
-        let kind = Kind::try_from(numbers.status as u16)?;
-        Ok(Record::with(kind, numbers))
+    fn of(kind: Kind, numbers: &Numbers) -> Record {
+        Record::with(kind, numbers.packets, sys::copied(&numbers.number, 9))
     }
 
-    /// A record of numbers that came over and should be of a kind.
+    /// A record of a kind, with the numbers after its last 0.
     #[inline]
-    pub(crate) fn of_kind(numbers: &Numbers, kind: Kind) -> Result<Record, Error> {
-        if numbers.status == kind.status().into() {
-            return Ok(Record::with(kind, numbers));
-        }
-        let expected = kind;
-        let found = Kind::try_from(numbers.status as u16)?;
-        Err(Error::WrongKind { expected, found })
-    }
-
-    #[inline]
-    fn with(kind: Kind, numbers: &Numbers) -> Record {
+    pub(crate) fn with(kind: Kind, packets: usize, number: [u32; 9]) -> Record {
+        let status = kind.status().into();
+        let reserved = [0; 5];
         Record {
             kind,
-            packets: numbers.packets,
-            number: numbers.number,
+            numbers: Numbers {
+                status,
+                packets,
+                number,
+                reserved,
+            },
         }
-    }
-
-    /// The record as it crosses.
-    #[inline]
-    fn crossed(&self) -> Numbers {
-        Numbers {
-            status: self.kind.status().into(),
-            packets: self.packets,
-            number: self.number,
-            reserved: [0; 5],
-        }
-    }
-
-    /// The field whose numbers start at a place.
-    #[inline]
-    pub(crate) fn field<T: Value>(&self, at: usize) -> T {
-        T::of(&self.number[at..])
-    }
-
-    /// Keeps a field that the library has set: a setting changes nothing else of a message.
-    #[inline]
-    pub(crate) fn keep<T: Value>(&mut self, at: usize, value: T) {
-        value.put(&mut self.number[at..]);
-    }
-
-    /// Keeps the packets of a text that the library has set.
-    #[inline]
-    pub(crate) fn keep_packets(&mut self, packets: usize) {
-        self.packets = packets;
     }
 
     /// The message's kind.
@@ -132,7 +99,7 @@ impl Record {
     #[inline]
     #[must_use]
     pub fn packets(&self) -> usize {
-        self.packets
+        self.numbers.packets
     }
 
     /// The numbers of the kind's fields, in the order of its methods: a flag is 0 or 1, a
@@ -140,14 +107,14 @@ impl Record {
     #[inline]
     #[must_use]
     pub fn numbers(&self) -> &[u32] {
-        &self.number[..self.kind.numbers()]
+        &self.numbers.number[..self.kind.numbers()]
     }
 
     /// Writes the record as a fresh message with its fields. A text kind is refusal 13, and a
     /// buffer with no whole packet refusal 14.
     #[inline]
     pub fn write(&self, words: &mut [u32]) -> Result<(), Refusal> {
-        sys::write(words, self.crossed()).done()
+        sys::write(words, self.numbers).done()
     }
 }
 
@@ -217,15 +184,10 @@ mod tests {
     #[test]
     fn new_records_are_the_librarys() {
         for kind in (0..=0x3FF).filter_map(|status| Kind::try_from(status).ok()) {
-            let numbers = sys::record_fresh(kind.status().into()).record();
-            assert_eq!(
-                numbers.and_then(|numbers| Record::of(&numbers)),
-                Ok(Record::new(kind))
-            );
+            let answer = sys::record_fresh(kind.status().into());
+            assert_eq!(answer.refusal, 0);
+            assert_eq!(Record::of(kind, &answer.record), Record::new(kind));
         }
-        assert_eq!(
-            sys::record_fresh(0x3FF).record().err(),
-            Some(Refusal::UnknownStatus)
-        );
+        assert_eq!(sys::record_fresh(0x3FF).refusal, 5);
     }
 }

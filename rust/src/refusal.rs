@@ -1,6 +1,6 @@
 //! Why a call is refused.
 
-use crate::sys::{self, Answer, Numbers, RecordAnswer};
+use crate::sys::{self, Answer};
 use std::error::Error;
 use std::fmt;
 
@@ -158,12 +158,5 @@ impl Answer {
     #[inline]
     pub fn done(self) -> Result<(), Refusal> {
         Refusal::check(self.refusal, self.place)
-    }
-}
-
-impl RecordAnswer {
-    #[inline]
-    pub fn record(self) -> Result<Numbers, Refusal> {
-        Refusal::check(self.refusal, self.place).map(|()| self.record)
     }
 }

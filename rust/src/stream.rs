@@ -2,7 +2,7 @@
 
 use crate::kind::each_kind;
 use crate::message::Message;
-use crate::sys::{self, FOUND_END, FOUND_OTHER};
+use crate::sys::{self, WalkAnswer, FOUND_END, FOUND_OTHER};
 use crate::{Error, Kind, Packets, Record, Refusal};
 use std::fmt;
 use std::iter::FusedIterator;
@@ -34,11 +34,19 @@ macro_rules! stream_enum {
         }
 
         impl<B> UmpStream<B> {
-            /// The typed message of a record's kind.
+            /// The typed message of a status.
             #[inline]
-            fn of(message: Message<B>) -> UmpStream<B> {
-                match message.record.kind() {
-                    $(Kind::$name => UmpStream::$name(crate::$name(message)),)*
+            fn of(status: u32, message: Message<B>) -> Result<UmpStream<B>, Refusal> {
+                match Kind::try_from(status as u16)? {
+                    $(Kind::$name => Ok(UmpStream::$name(crate::$name(message))),)*
+                }
+            }
+
+            /// What the message says, as a record, with its kind.
+            #[inline]
+            pub fn record(&self) -> Record {
+                match self {
+                    $(UmpStream::$name(m) => m.0.record(Kind::$name),)*
                 }
             }
 
@@ -87,20 +95,15 @@ macro_rules! stream_enum {
 }
 each_kind!(stream_enum);
 
-impl<B> UmpStream<B> {
-    /// What the message says, as a record, with its kind.
-    #[inline]
-    pub fn record(&self) -> Record {
-        self.message().record
-    }
-}
-
 impl<B: AsRef<[u32]>> UmpStream<B> {
     /// Reads a buffer that should be one message and nothing else.
     #[inline]
     pub fn read(buffer: B) -> Result<UmpStream<B>, Refusal> {
-        let record = Record::of(&sys::read(buffer.as_ref()).record()?)?;
-        Ok(UmpStream::of(Message { buffer, record }))
+        let answer = sys::read(buffer.as_ref());
+        Refusal::check(answer.refusal, answer.place)?;
+        let number = sys::copied(&answer.record.number, 9);
+        let message = Message::of(buffer, answer.record.packets, number);
+        UmpStream::of(answer.record.status, message)
     }
 
     /// The message's words.
@@ -247,28 +250,26 @@ impl<'a> Iterator for Messages<'a> {
         }
         self.position = answer.next;
         let words = self.words.get(position..answer.next).unwrap_or(&[]);
-        let found = match answer.found {
-            FOUND_OTHER => Found::Other {
-                ump_type: answer.ump_type as u8,
-                words,
-            },
-            _ => match found_message(&answer) {
-                Ok(record) => Found::Message(UmpStream::of(Message {
-                    buffer: words,
-                    record,
-                })),
-                Err(refusal) => Found::Refused { refusal, words },
-            },
-        };
-        Some((position, found))
+        if answer.found == FOUND_OTHER {
+            let ump_type = answer.ump_type as u8;
+            return Some((position, Found::Other { ump_type, words }));
+        }
+        match found_message(words, &answer) {
+            Ok(message) => Some((position, Found::Message(message))),
+            Err(refusal) => Some((position, Found::Refused { refusal, words })),
+        }
     }
 }
 
 impl FusedIterator for Messages<'_> {}
 
-/// The record of a message that was found, or why there is none.
+/// The message that was found, or why there is none.
 #[inline]
-fn found_message(answer: &sys::WalkAnswer) -> Result<Record, Refusal> {
+fn found_message<'a>(
+    words: &'a [u32],
+    answer: &WalkAnswer,
+) -> Result<UmpStream<&'a [u32]>, Refusal> {
     Refusal::check(answer.refusal, answer.place)?;
-    Record::of(&answer.record)
+    let message = Message::of(words, answer.record.packets, answer.record.number);
+    UmpStream::of(answer.record.status, message)
 }

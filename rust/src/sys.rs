@@ -7,12 +7,14 @@
 
 #![allow(unsafe_code)]
 
+use std::ptr;
+
 pub const FOUND_END: u32 = 0;
 pub const FOUND_OTHER: u32 = 1;
 
 /// A record as it crosses.
 #[repr(C)]
-#[derive(Clone, Copy)]
+#[derive(Clone, Copy, Debug, PartialEq, Eq, Hash)]
 pub struct Numbers {
     pub status: u32,
     pub packets: usize,
@@ -182,6 +184,20 @@ fn said(call: impl Fn(&mut [u8]) -> usize) -> String {
     call(&mut bytes);
     bytes.truncate(length);
     String::from_utf8(bytes).unwrap_or_default()
+}
+
+/// Copies numbers of an answer, the first ones and zeros after them.
+///
+/// Each is read by itself: the library has just written them one by one, and the processor waits
+/// where numbers that were written apart are read at once.
+#[inline]
+pub fn copied<const N: usize>(numbers: &[u32; N], count: usize) -> [u32; N] {
+    let mut copy = [0; N];
+    for (to, from) in copy.iter_mut().zip(numbers).take(count) {
+        // SAFETY: a reference to a number.
+        *to = unsafe { ptr::read_volatile(from) };
+    }
+    copy
 }
 
 /// A safe function for each setting of one value on words.
