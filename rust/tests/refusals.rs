@@ -190,7 +190,7 @@ fn text_is_refused_with_11_then_3_then_14() {
 /// Text of as many bytes as an error says is taken.
 #[test]
 fn the_longest_texts() {
-    let mut words = vec![0; frayedbin::MOST_WORDS];
+    let mut words = vec![0; frayedbin::MOST_WORDS + 4];
     let mut name = EndpointName::new(&mut words[..]).unwrap();
     let longest = frayedbin::MOST_NAME_BYTES;
     assert_eq!(name.set_name("a".repeat(longest)), Ok(()));
