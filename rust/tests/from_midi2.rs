@@ -4,7 +4,19 @@ use frayedbin::ump_stream::{
     EndpointInfo, EndpointName, Format, FunctionBlockInfo, FunctionBlockName, Packet,
     ProductInstanceId, TextBytesIterator, UiHint, UmpStream,
 };
-use frayedbin::Error;
+use frayedbin::{Error, Kind};
+
+#[test]
+fn the_first_lines() -> Result<(), Error> {
+    let mut name = FunctionBlockName::<Vec<u32>>::try_new()?;
+    name.set_function_block(5)?;
+    name.set_name("Keys & Knobs")?;
+    assert_eq!(
+        name.data(),
+        [0xF012_054B, 0x6579_7320, 0x2620_4B6E, 0x6F62_7300]
+    );
+    Ok(())
+}
 
 #[test]
 fn messages_in_buffers_of_their_own() -> Result<(), Error> {
@@ -65,4 +77,37 @@ fn the_other_spelling() -> Result<(), Error> {
         UiHint::Undeclared | UiHint::Sender | UiHint::Receiver => panic!("another hint"),
     }
     Ok(())
+}
+
+/// A message found in a stream, kept in a buffer of its own, by any of its types.
+#[test]
+fn other_buffers_and_types() -> Result<(), Error> {
+    let words = [0xF012_0541, 0, 0, 0];
+    let name = FunctionBlockName::try_from(&words[..])?;
+    let kept: FunctionBlockName<Vec<u32>> = FunctionBlockName::read(name.data().to_vec())?;
+    assert_eq!(kept, name);
+    let any = UmpStream::from(kept);
+    assert_eq!(any, UmpStream::try_from(&words[..])?);
+    assert_eq!(FunctionBlockName::try_from(any)?.name(), "A");
+    Ok(())
+}
+
+#[test]
+fn one_answer_for_each_wrong() {
+    let told = |words: &[u32]| match FunctionBlockName::read(words) {
+        Err(Error::WrongKind { expected, found }) => format!("{found} in place of {expected}"),
+        Err(error) => format!(
+            "{error}: number {}, packet {}",
+            error.number(),
+            error.place()
+        ),
+        Ok(name) => name.name(),
+    };
+    let (found, expected) = (Kind::EndpointInfo, Kind::FunctionBlockName);
+    assert_eq!(
+        told(&[0xF001_0000, 0, 0, 0]),
+        format!("{found} in place of {expected}")
+    );
+    assert!(told(&[0xF012_0000, 0, 0, 0, 0, 0, 0, 0]).ends_with(": number 4, packet 1"));
+    assert_eq!(told(&[0xF012_0541, 0, 0, 0]), "A");
 }
