@@ -10,7 +10,7 @@ use std::fmt;
 /// answers [`Refusal`].
 ///
 /// ```
-/// use frayedbin::{EndpointInfo, EndpointName, Error, Kind, Refusal};
+/// use frayedbin::{EndpointName, Error, Kind, Refusal};
 ///
 /// let info = [0xF001_0101, 0, 0, 0];
 /// let error = EndpointName::read(info).unwrap_err();

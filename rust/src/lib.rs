@@ -47,14 +47,15 @@
 //! ```
 //!
 //! ```sh
-//! FRAYEDBIN_LIB_DIR=/home/me/frayedbin/target/staticlib cargo build
+//! FRAYEDBIN_LIB_DIR=$HOME/frayedbin/target/staticlib cargo build
 //! ```
 //!
-//! To name it once for a project, in the project's .cargo/config.toml:
+//! To name it once for a project, in the project's .cargo/config.toml, from the folder that
+//! .cargo is in:
 //!
 //! ```toml
 //! [env]
-//! FRAYEDBIN_LIB_DIR = "/home/me/frayedbin/target/staticlib"
+//! FRAYEDBIN_LIB_DIR = { value = "../frayedbin/target/staticlib", relative = true }
 //! ```
 //!
 //! With `FRAYEDBIN_SKIP_LINK` set nothing is linked: enough for `cargo check`, `clippy` and `doc`
