@@ -27,7 +27,7 @@ impl<B> Message<B> {
     #[inline]
     fn of_kind(buffer: B, record: &Numbers, kind: Kind) -> Result<Message<B>, Error> {
         if record.status == kind.status().into() {
-            let number = sys::copied(&record.number, kind.numbers());
+            let number = sys::kept(&record.number, kind.numbers());
             return Ok(Message::of(buffer, record.packets, number));
         }
         let expected = kind;

@@ -67,7 +67,7 @@ impl<'a> TryFrom<&'a [u32]> for Packet {
 pub fn packet(words: &[u32]) -> Result<Packet, Refusal> {
     let answer = sys::packet(words);
     Refusal::check(answer.refusal, answer.place)?;
-    let words = sys::copied(&answer.word, 4);
+    let words = sys::kept(&answer.word, 4);
     let format = match answer.format {
         0 => Format::Complete,
         1 => Format::Start,

@@ -69,7 +69,7 @@ impl Record {
     /// A record of numbers that came over.
     #[inline]
     fn of(kind: Kind, numbers: &Numbers) -> Record {
-        Record::with(kind, numbers.packets, sys::copied(&numbers.number, 9))
+        Record::with(kind, numbers.packets, sys::looked_at(&numbers.number))
     }
 
     /// A record of a kind, with the numbers after its last 0.

@@ -101,7 +101,7 @@ impl<B: AsRef<[u32]>> UmpStream<B> {
     pub fn read(buffer: B) -> Result<UmpStream<B>, Refusal> {
         let answer = sys::read(buffer.as_ref());
         Refusal::check(answer.refusal, answer.place)?;
-        let number = sys::copied(&answer.record.number, 9);
+        let number = sys::looked_at(&answer.record.number);
         let message = Message::of(buffer, answer.record.packets, number);
         UmpStream::of(answer.record.status, message)
     }
@@ -270,6 +270,10 @@ fn found_message<'a>(
     answer: &WalkAnswer,
 ) -> Result<UmpStream<&'a [u32]>, Refusal> {
     Refusal::check(answer.refusal, answer.place)?;
-    let message = Message::of(words, answer.record.packets, answer.record.number);
+    let message = Message::of(
+        words,
+        answer.record.packets,
+        sys::looked_at(&answer.record.number),
+    );
     UmpStream::of(answer.record.status, message)
 }

@@ -186,18 +186,26 @@ fn said(call: impl Fn(&mut [u8]) -> usize) -> String {
     String::from_utf8(bytes).unwrap_or_default()
 }
 
-/// Copies numbers of an answer, the first ones and zeros after them.
+/// The first numbers of an answer, and zeros after them, for a caller who keeps them.
 ///
 /// Each is read by itself: the library has just written them one by one, and the processor waits
 /// where numbers that were written apart are read at once.
 #[inline]
-pub fn copied<const N: usize>(numbers: &[u32; N], count: usize) -> [u32; N] {
-    let mut copy = [0; N];
-    for (to, from) in copy.iter_mut().zip(numbers).take(count) {
+pub fn kept<const N: usize>(numbers: &[u32; N], count: usize) -> [u32; N] {
+    let mut kept = [0; N];
+    for (to, from) in kept.iter_mut().zip(numbers).take(count) {
         // SAFETY: a reference to a number.
         *to = unsafe { ptr::read_volatile(from) };
     }
-    copy
+    kept
+}
+
+/// The numbers of an answer, for a caller who may look at a few: named one by one, so that the
+/// compiler leaves out the others.
+#[inline]
+pub fn looked_at(numbers: &[u32; 9]) -> [u32; 9] {
+    let [a, b, c, d, e, f, g, h, i] = *numbers;
+    [a, b, c, d, e, f, g, h, i]
 }
 
 /// A safe function for each setting of one value on words.
