@@ -292,7 +292,7 @@ macro_rules! text {
             #[inline]
             #[must_use]
             pub fn $get(&self) -> String {
-                $crate::text::string(self.data(), self.0.packets() * $per_packet)
+                $crate::text::string(self.data(), self.0.packets())
             }
 
             #[doc = concat!("The bytes of the ", $what, ", in order and without zeros.")]

@@ -17,7 +17,9 @@ use std::fmt;
 /// assert_eq!(refusal, Refusal::NumberTooLarge);
 /// assert_eq!(refusal.number(), 12);
 /// assert_eq!(refusal.place(), 0);
-/// assert_eq!(refusal.to_string(), "refusal 12: a number is above its field's largest");
+/// let sentence = "a number is above its field's largest, or a code names no choice";
+/// assert_eq!(refusal.sentence(), sentence);
+/// assert_eq!(refusal.to_string(), format!("refusal 12: {sentence}"));
 /// # Ok::<(), frayedbin::Error>(())
 /// ```
 #[derive(Clone, Copy, Debug, PartialEq, Eq, Hash)]
@@ -49,7 +51,7 @@ pub enum Refusal {
     NumberTooLarge,
     /// 13: this kind has no such field.
     NoSuchField,
-    /// 14: the buffer has too few whole packets.
+    /// 14: the buffer has too little room.
     NoRoom,
     /// A number that has no name here: the library is newer than this crate.
     Other {

@@ -35,10 +35,12 @@ impl<'a> TextBytesIterator<'a> {
     }
 }
 
-/// The text of a message, of at most so many bytes. In a message that was read it is UTF-8.
+/// The text of a message of so many packets. In a message that was read it is UTF-8.
+///
+/// With room for 14 bytes a packet, as many as any kind has, the library need not count them first.
 #[inline]
-pub fn string(words: &[u32], most: usize) -> String {
-    String::from_utf8(sys::text(words, most)).unwrap_or_default()
+pub fn string(words: &[u32], packets: usize) -> String {
+    String::from_utf8(sys::text(words, packets * 14)).unwrap_or_default()
 }
 
 impl Iterator for TextBytesIterator<'_> {

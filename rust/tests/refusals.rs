@@ -262,9 +262,6 @@ fn a_refusal_says_number_sentence_and_place() {
         "refusal 8: a later packet has another block number, packet 1"
     );
     let error: Box<dyn std::error::Error> = Refusal::NoRoom.into();
-    assert_eq!(
-        error.to_string(),
-        "refusal 14: the buffer has too few whole packets"
-    );
+    assert_eq!(error.to_string(), "refusal 14: there is too little room");
     assert_eq!(Error::from(refusal).to_string(), refusal.to_string());
 }
