@@ -6,7 +6,7 @@ kind! {
     /// Who made an endpoint, and which model and version it is.
     ///
     /// ```
-    /// use frayedbin::{DeviceIdentity, Refusal};
+    /// use frayedbin::{DeviceIdentity, Error, Refusal};
     ///
     /// let mut identity = DeviceIdentity::new([0; 4])?;
     /// identity.set_device_manufacturer([0x7D, 0, 0])?;
@@ -15,7 +15,7 @@ kind! {
     /// assert_eq!(identity.data(), [0xF002_0000, 0x007D_0000, 0x0101_0000, 0x0102_0003]);
     /// assert_eq!(identity.device_family(), 129);
     /// assert_eq!(identity.set_device_family(16_384), Err(Refusal::NumberTooLarge));
-    /// # Ok::<(), Refusal>(())
+    /// # Ok::<(), Error>(())
     /// ```
     DeviceIdentity
 }

@@ -6,7 +6,7 @@ kind! {
     /// A host's question to an endpoint: which messages should it send about itself?
     ///
     /// ```
-    /// use frayedbin::{EndpointDiscovery, Refusal};
+    /// use frayedbin::{EndpointDiscovery, Error};
     ///
     /// let mut question = EndpointDiscovery::new([0; 4])?;
     /// question.set_ump_version_major(1)?;
@@ -14,7 +14,7 @@ kind! {
     /// question.set_request_endpoint_info(true)?;
     /// question.set_request_endpoint_name(true)?;
     /// assert_eq!(question.data(), [0xF000_0101, 0b101, 0, 0]);
-    /// # Ok::<(), Refusal>(())
+    /// # Ok::<(), Error>(())
     /// ```
     EndpointDiscovery
 }

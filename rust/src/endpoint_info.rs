@@ -6,7 +6,7 @@ kind! {
     /// What an endpoint can do.
     ///
     /// ```
-    /// use frayedbin::{EndpointInfo, Refusal};
+    /// use frayedbin::{EndpointInfo, Error};
     ///
     /// let mut info = EndpointInfo::new([0; 4])?;
     /// info.set_ump_version_major(1)?;
@@ -16,7 +16,7 @@ kind! {
     /// info.set_supports_midi2_protocol(true)?;
     /// info.set_supports_midi1_protocol(true)?;
     /// assert_eq!(info.data(), [0xF001_0101, 0x8400_0300, 0, 0]);
-    /// # Ok::<(), Refusal>(())
+    /// # Ok::<(), Error>(())
     /// ```
     EndpointInfo
 }

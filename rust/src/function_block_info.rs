@@ -7,7 +7,7 @@ kind! {
     /// What a function block is for.
     ///
     /// ```
-    /// use frayedbin::{Direction, FunctionBlockInfo, Midi1Port, Refusal, UiHint};
+    /// use frayedbin::{Direction, Error, FunctionBlockInfo, Midi1Port, UiHint};
     ///
     /// let mut info = FunctionBlockInfo::new([0; 4])?;
     /// assert_eq!(info.direction(), Direction::Bidirectional);
@@ -19,7 +19,7 @@ kind! {
     /// info.set_first_group(2)?;
     /// info.set_number_of_groups_spanned(1)?;
     /// assert_eq!(info.data(), [0xF011_8319, 0x0201_0000, 0, 0]);
-    /// # Ok::<(), Refusal>(())
+    /// # Ok::<(), Error>(())
     /// ```
     FunctionBlockInfo
 }

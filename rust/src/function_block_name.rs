@@ -7,7 +7,7 @@ kind! {
     /// number.
     ///
     /// ```
-    /// use frayedbin::{FunctionBlockName, Refusal};
+    /// use frayedbin::{Error, FunctionBlockName};
     ///
     /// let mut name = FunctionBlockName::new([0; 8])?;
     /// name.set_function_block(5)?;
@@ -17,7 +17,7 @@ kind! {
     /// assert_eq!(name.data().len(), 4);
     /// name.set_name("Keys & Knöpfe")?;
     /// assert_eq!(name.data()[4], 0xFC12_0565);
-    /// # Ok::<(), Refusal>(())
+    /// # Ok::<(), Error>(())
     /// ```
     FunctionBlockName
 }
@@ -30,6 +30,6 @@ fields! {
 }
 
 text! {
-    FunctionBlockName "name" name, name_bytes, "832", set_name
-        by frayedbin_function_block_name_set_name
+    FunctionBlockName "name", "832" by 13:
+    name, name_bytes, set_name, try_set_name by frayedbin_function_block_name_set_name
 }

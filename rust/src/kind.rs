@@ -1,6 +1,7 @@
 //! The kinds, and the named choices of a function block.
 
-use crate::Refusal;
+use crate::{sys, Refusal};
+use std::fmt;
 
 /// Gives every kind to a macro: its name, its status, and how many numbers its record has.
 macro_rules! each_kind {
@@ -28,6 +29,7 @@ macro_rules! kind_enum {
         /// assert_eq!(Kind::FunctionBlockName.status(), 0x12);
         /// assert_eq!(Kind::try_from(0x12), Ok(Kind::FunctionBlockName));
         /// assert_eq!(Kind::try_from(0x05).unwrap_err().number(), 5);
+        /// assert_eq!(Kind::FunctionBlockName.to_string(), "function-block-name");
         /// ```
         #[derive(Clone, Copy, Debug, PartialEq, Eq, Hash)]
         #[non_exhaustive]
@@ -40,6 +42,7 @@ macro_rules! kind_enum {
 
         impl Kind {
             /// The kind's status.
+            #[inline]
             #[must_use]
             pub fn status(self) -> u16 {
                 match self {
@@ -48,6 +51,7 @@ macro_rules! kind_enum {
             }
 
             /// How many numbers the kind's record has.
+            #[inline]
             pub(crate) fn numbers(self) -> usize {
                 match self {
                     $(Kind::$name => $numbers,)*
@@ -59,6 +63,7 @@ macro_rules! kind_enum {
         impl TryFrom<u16> for Kind {
             type Error = Refusal;
 
+            #[inline]
             fn try_from(status: u16) -> Result<Kind, Refusal> {
                 match status {
                     $($status => Ok(Kind::$name),)*
@@ -69,6 +74,13 @@ macro_rules! kind_enum {
     };
 }
 each_kind!(kind_enum);
+
+/// The kind's name, as the listing prints it.
+impl fmt::Display for Kind {
+    fn fmt(&self, f: &mut fmt::Formatter<'_>) -> fmt::Result {
+        f.pad(&sys::kind_name(self.status().into()))
+    }
+}
 
 /// What users may take a function block for.
 #[derive(Clone, Copy, Debug, Default, PartialEq, Eq, Hash)]
@@ -81,7 +93,24 @@ pub enum UiHint {
     /// Code 2: mostly a sender.
     Sender,
     /// Code 3: both.
+    #[doc(alias = "SenderReciever")]
     SenderReceiver,
+}
+
+impl UiHint {
+    /// [`UiHint::SenderReceiver`] as midi2 spells it, for patterns too.
+    ///
+    /// ```
+    /// use frayedbin::UiHint;
+    ///
+    /// let receives = |hint| match hint {
+    ///     UiHint::Undeclared | UiHint::Sender => false,
+    ///     UiHint::Receiver | UiHint::SenderReciever => true,
+    /// };
+    /// assert!(receives(UiHint::SenderReceiver));
+    /// ```
+    #[allow(non_upper_case_globals)]
+    pub const SenderReciever: UiHint = UiHint::SenderReceiver;
 }
 
 /// How a function block that is a MIDI 1.0 port takes messages. One that is none has `None`.

@@ -1,6 +1,7 @@
 //! One packet, and the size of a message by the formats of its packets.
 
 use crate::{sys, Refusal};
+use std::iter::FusedIterator;
 use std::ops::Deref;
 
 /// A packet's part in its message.
@@ -35,6 +36,7 @@ pub struct Packet {
 
 impl Packet {
     /// The packet's format.
+    #[inline]
     #[must_use]
     pub fn format(&self) -> Format {
         self.format
@@ -44,6 +46,7 @@ impl Packet {
 impl Deref for Packet {
     type Target = [u32];
 
+    #[inline]
     fn deref(&self) -> &[u32] {
         &self.words
     }
@@ -53,15 +56,19 @@ impl Deref for Packet {
 impl<'a> TryFrom<&'a [u32]> for Packet {
     type Error = Refusal;
 
+    #[inline]
     fn try_from(words: &'a [u32]) -> Result<Packet, Refusal> {
         packet(words)
     }
 }
 
 /// The first four words, missing ones zero. No words are refusal 1, another type is refusal 4.
+#[inline]
 pub fn packet(words: &[u32]) -> Result<Packet, Refusal> {
-    let (words, code) = sys::packet(words)?;
-    let format = match code {
+    let answer = sys::packet(words);
+    Refusal::check(answer.refusal, answer.place)?;
+    let words = sys::kept(&answer.word, 4);
+    let format = match answer.format {
         0 => Format::Complete,
         1 => Format::Start,
         2 => Format::Continue,
@@ -69,6 +76,49 @@ pub fn packet(words: &[u32]) -> Result<Packet, Refusal> {
     };
     Ok(Packet { words, format })
 }
+
+/// The packets of a message, in order.
+///
+/// ```
+/// use frayedbin::{EndpointName, Error, Format};
+///
+/// let mut name = EndpointName::new(Vec::new())?;
+/// name.set_name("a name of thirty-one characters")?;
+/// let formats: Vec<Format> = name.packets().map(|packet| packet.format()).collect();
+/// assert_eq!(formats, [Format::Start, Format::Continue, Format::End]);
+/// # Ok::<(), Error>(())
+/// ```
+#[derive(Clone, Debug)]
+#[must_use = "iterators are lazy"]
+pub struct Packets<'a> {
+    words: &'a [u32],
+}
+
+impl<'a> Packets<'a> {
+    /// The packets of a message's words.
+    #[inline]
+    pub(crate) fn new(words: &'a [u32]) -> Packets<'a> {
+        Packets { words }
+    }
+}
+
+impl Iterator for Packets<'_> {
+    type Item = Packet;
+
+    #[inline]
+    fn next(&mut self) -> Option<Packet> {
+        let next = packet(self.words).ok()?;
+        self.words = self.words.get(4..).unwrap_or(&[]);
+        Some(next)
+    }
+
+    #[inline]
+    fn size_hint(&self) -> (usize, Option<usize>) {
+        (0, Some(self.words.len() / 4))
+    }
+}
+
+impl FusedIterator for Packets<'_> {}
 
 /// How many words the message that a slice starts with takes, by formats alone: up to the first
 /// packet that is complete or an end. Where none is, refusal 1.
@@ -80,6 +130,8 @@ pub fn packet(words: &[u32]) -> Result<Packet, Refusal> {
 /// assert_eq!(message_size(&words), Ok(8));
 /// assert_eq!(message_size(&words[..4]), Err(Refusal::TooFewWords));
 /// ```
+#[inline]
 pub fn message_size(words: &[u32]) -> Result<usize, Refusal> {
-    sys::message_size(words)
+    let answer = sys::message_size(words);
+    Refusal::check(answer.refusal, answer.place).map(|()| answer.words)
 }

@@ -6,13 +6,13 @@ kind! {
     /// What tells one endpoint of a model from another, such as a serial number.
     ///
     /// ```
-    /// use frayedbin::{ProductInstanceId, Refusal};
+    /// use frayedbin::{Error, ProductInstanceId};
     ///
-    /// let mut id = ProductInstanceId::new(vec![0; 4])?;
+    /// let mut id = ProductInstanceId::new(Vec::new())?;
     /// id.set_id("FB-0001")?;
     /// assert_eq!(id.data(), [0xF004_4642, 0x2D30_3030, 0x3100_0000, 0]);
     /// assert_eq!(id.id(), "FB-0001");
-    /// # Ok::<(), Refusal>(())
+    /// # Ok::<(), Error>(())
     /// ```
     ProductInstanceId
 }
@@ -20,5 +20,6 @@ kind! {
 fields! { ProductInstanceId id; }
 
 text! {
-    ProductInstanceId "id" id, id_bytes, "896", set_id by frayedbin_product_instance_id_set_id
+    ProductInstanceId "id", "896" by 14:
+    id, id_bytes, set_id, try_set_id by frayedbin_product_instance_id_set_id
 }

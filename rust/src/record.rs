@@ -38,8 +38,11 @@ macro_rules! settings {
     ($($(#[$doc:meta])+ $name:ident($type:ty) by $call:ident;)+) => {
         impl Record {
             $($(#[$doc])+
+            #[inline]
             pub fn $name(self, value: $type) -> Result<Record, Refusal> {
-                Record::of(sys::$call(self.numbers, value.crossed())?)
+                let answer = sys::$call(self.numbers, value.crossed());
+                Refusal::check(answer.refusal, answer.place)?;
+                Ok(Record::of(self.kind, &answer.record))
             })+
         }
     };
@@ -48,41 +51,52 @@ macro_rules! settings {
 impl Record {
     /// The record of a fresh message: one packet, and all fields 0 but a block info's direction,
     /// which is [`Direction::Bidirectional`].
+    #[inline]
     pub fn new(kind: Kind) -> Record {
+        Record::with(kind, 1, Record::fresh_numbers(kind))
+    }
+
+    /// The numbers of a fresh message.
+    #[inline]
+    pub(crate) fn fresh_numbers(kind: Kind) -> [u32; 9] {
         let mut number = [0; 9];
         if kind == Kind::FunctionBlockInfo {
             number[4] = Direction::default().crossed();
         }
+        number
+    }
+
+    /// A record of numbers that came over.
+    #[inline]
+    fn of(kind: Kind, numbers: &Numbers) -> Record {
+        Record::with(kind, numbers.packets, sys::looked_at(&numbers.number))
+    }
+
+    /// A record of a kind, with the numbers after its last 0.
+    #[inline]
+    pub(crate) fn with(kind: Kind, packets: usize, number: [u32; 9]) -> Record {
         let status = kind.status().into();
-        let packets = 1;
+        let reserved = [0; 5];
         Record {
             kind,
             numbers: Numbers {
                 status,
                 packets,
                 number,
+                reserved,
             },
         }
     }
 
-    /// A record of numbers that came over.
-    pub(crate) fn of(numbers: Numbers) -> Result<Record, Refusal> {
-        let kind = Kind::try_from(numbers.status as u16)?;
-        Ok(Record { kind, numbers })
-    }
-
-    /// The field whose numbers start at a place.
-    pub(crate) fn field<T: Value>(&self, at: usize) -> T {
-        T::of(&self.numbers.number[at..])
-    }
-
     /// The message's kind.
+    #[inline]
     #[must_use]
     pub fn kind(&self) -> Kind {
         self.kind
     }
 
     /// How many packets the message takes, 1 to 64.
+    #[inline]
     #[must_use]
     pub fn packets(&self) -> usize {
         self.numbers.packets
@@ -90,6 +104,7 @@ impl Record {
 
     /// The numbers of the kind's fields, in the order of its methods: a flag is 0 or 1, a
     /// choice is its code, a manufacturer is three numbers and a software version four.
+    #[inline]
     #[must_use]
     pub fn numbers(&self) -> &[u32] {
         &self.numbers.number[..self.kind.numbers()]
@@ -97,18 +112,9 @@ impl Record {
 
     /// Writes the record as a fresh message with its fields. A text kind is refusal 13, and a
     /// buffer with no whole packet refusal 14.
+    #[inline]
     pub fn write(&self, words: &mut [u32]) -> Result<(), Refusal> {
-        sys::write(words, self.numbers)
-    }
-
-    /// Refusal 13: a record holds no text.
-    pub fn set_name(self, name: impl AsRef<[u8]>) -> Result<Record, Refusal> {
-        Record::of(sys::frayedbin_record_set_name(self.numbers, name.as_ref())?)
-    }
-
-    /// Refusal 13: a record holds no text.
-    pub fn set_id(self, id: impl AsRef<[u8]>) -> Result<Record, Refusal> {
-        Record::of(sys::frayedbin_record_set_id(self.numbers, id.as_ref())?)
+        sys::write(words, self.numbers).done()
     }
 }
 
@@ -168,4 +174,20 @@ settings! {
     set_max_number_of_midi_ci_streams(u8) by frayedbin_record_set_max_number_of_midi_ci_streams;
     /// Sets the number of the block that a function block name is about.
     set_function_block(u8) by frayedbin_record_set_function_block;
+}
+
+#[cfg(test)]
+mod tests {
+    use super::*;
+
+    /// A new record is what the library says of a fresh message.
+    #[test]
+    fn new_records_are_the_librarys() {
+        for kind in (0..=0x3FF).filter_map(|status| Kind::try_from(status).ok()) {
+            let answer = sys::record_fresh(kind.status().into());
+            assert_eq!(answer.refusal, 0);
+            assert_eq!(Record::of(kind, &answer.record), Record::new(kind));
+        }
+        assert_eq!(sys::record_fresh(0x3FF).refusal, 5);
+    }
 }

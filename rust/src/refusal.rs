@@ -1,5 +1,6 @@
 //! Why a call is refused.
 
+use crate::sys::{self, Answer};
 use std::error::Error;
 use std::fmt;
 
@@ -16,8 +17,10 @@ use std::fmt;
 /// assert_eq!(refusal, Refusal::NumberTooLarge);
 /// assert_eq!(refusal.number(), 12);
 /// assert_eq!(refusal.place(), 0);
-/// assert_eq!(refusal.to_string(), "refusal 12: a number is above its field's largest");
-/// # Ok::<(), Refusal>(())
+/// let sentence = "a number is above its field's largest, or a code names no choice";
+/// assert_eq!(refusal.sentence(), sentence);
+/// assert_eq!(refusal.to_string(), format!("refusal 12: {sentence}"));
+/// # Ok::<(), frayedbin::Error>(())
 /// ```
 #[derive(Clone, Copy, Debug, PartialEq, Eq, Hash)]
 #[non_exhaustive]
@@ -48,7 +51,7 @@ pub enum Refusal {
     NumberTooLarge,
     /// 13: this kind has no such field.
     NoSuchField,
-    /// 14: the buffer has too few whole packets.
+    /// 14: the buffer has too little room.
     NoRoom,
     /// A number that has no name here: the library is newer than this crate.
     Other {
@@ -61,9 +64,19 @@ pub enum Refusal {
 
 impl Refusal {
     /// What an answer's two numbers say: done, or refused.
+    #[inline]
     pub(crate) fn check(number: u32, place: usize) -> Result<(), Refusal> {
-        Err(match number {
-            0 => return Ok(()),
+        match number {
+            0 => Ok(()),
+            _ => Err(Refusal::of(number, place)),
+        }
+    }
+
+    /// The refusal of a number. It stands apart, so that calls that are done pass it by.
+    #[cold]
+    #[inline(never)]
+    fn of(number: u32, place: usize) -> Refusal {
+        match number {
             1 => Refusal::TooFewWords,
             2 => Refusal::NotWholePackets,
             3 => Refusal::TooManyPackets,
@@ -79,7 +92,7 @@ impl Refusal {
             13 => Refusal::NoSuchField,
             14 => Refusal::NoRoom,
             _ => Refusal::Other { number, place },
-        })
+        }
     }
 
     /// The refusal's number, 1 to 14.
@@ -111,26 +124,10 @@ impl Refusal {
         self.packet().unwrap_or(0)
     }
 
-    /// The sentence, with no number.
+    /// The library's sentence, with no number.
     #[must_use]
-    pub fn sentence(&self) -> &'static str {
-        match self {
-            Refusal::TooFewWords => "there are too few words",
-            Refusal::NotWholePackets => "the length is not a multiple of four words",
-            Refusal::TooManyPackets => "there are more than 64 packets",
-            Refusal::WrongType(_) => "a packet's type is not F",
-            Refusal::UnknownStatus => "the status is none of the seven",
-            Refusal::StatusDiffers(_) => "a later packet has another status",
-            Refusal::WrongFormat(_) => "a packet's format is not the one due",
-            Refusal::BlockNumberDiffers(_) => "a later packet has another block number",
-            Refusal::BadPort => "the MIDI 1.0 port is 3",
-            Refusal::BadDirection => "the direction is 0",
-            Refusal::NotUtf8 => "the text is not UTF-8",
-            Refusal::NumberTooLarge => "a number is above its field's largest",
-            Refusal::NoSuchField => "this kind has no such field",
-            Refusal::NoRoom => "the buffer has too few whole packets",
-            Refusal::Other { .. } => "the library is newer than this crate",
-        }
+    pub fn sentence(&self) -> String {
+        sys::refusal_text(self.number())
     }
 
     /// The place, where the refusal has one.
@@ -158,3 +155,10 @@ impl fmt::Display for Refusal {
 }
 
 impl Error for Refusal {}
+
+impl Answer {
+    #[inline]
+    pub fn done(self) -> Result<(), Refusal> {
+        Refusal::check(self.refusal, self.place)
+    }
+}

@@ -2,8 +2,8 @@
 
 use crate::kind::each_kind;
 use crate::message::Message;
-use crate::sys::{self, FOUND_END, FOUND_OTHER};
-use crate::{Kind, Record, Refusal};
+use crate::sys::{self, WalkAnswer, FOUND_END, FOUND_OTHER};
+use crate::{Error, Kind, Packets, Record, Refusal};
 use std::fmt;
 use std::iter::FusedIterator;
 
@@ -34,13 +34,23 @@ macro_rules! stream_enum {
         }
 
         impl<B> UmpStream<B> {
-            /// The typed message of a record's kind.
-            fn of(message: Message<B>) -> UmpStream<B> {
-                match message.record.kind() {
-                    $(Kind::$name => UmpStream::$name(crate::$name(message)),)*
+            /// The typed message of a status.
+            #[inline]
+            fn of(status: u32, message: Message<B>) -> Result<UmpStream<B>, Refusal> {
+                match Kind::try_from(status as u16)? {
+                    $(Kind::$name => Ok(UmpStream::$name(crate::$name(message))),)*
                 }
             }
 
+            /// What the message says, as a record, with its kind.
+            #[inline]
+            pub fn record(&self) -> Record {
+                match self {
+                    $(UmpStream::$name(m) => m.0.record(Kind::$name),)*
+                }
+            }
+
+            #[inline]
             fn message(&self) -> &Message<B> {
                 match self {
                     $(UmpStream::$name(m) => &m.0,)*
@@ -56,28 +66,57 @@ macro_rules! stream_enum {
                 }
             }
         }
+
+        $(
+            impl<B> From<crate::$name<B>> for UmpStream<B> {
+                #[inline]
+                fn from(message: crate::$name<B>) -> UmpStream<B> {
+                    UmpStream::$name(message)
+                }
+            }
+
+            /// The message of that kind; one of another is [`Error::WrongKind`].
+            impl<B> TryFrom<UmpStream<B>> for crate::$name<B> {
+                type Error = Error;
+
+                #[inline]
+                fn try_from(message: UmpStream<B>) -> Result<Self, Error> {
+                    match message {
+                        UmpStream::$name(m) => Ok(m),
+                        other => Err(Error::WrongKind {
+                            expected: Kind::$name,
+                            found: other.record().kind(),
+                        }),
+                    }
+                }
+            }
+        )*
     };
 }
 each_kind!(stream_enum);
 
-impl<B> UmpStream<B> {
-    /// What the message says, as a record, with its kind.
-    pub fn record(&self) -> Record {
-        self.message().record
-    }
-}
-
 impl<B: AsRef<[u32]>> UmpStream<B> {
     /// Reads a buffer that should be one message and nothing else.
+    #[inline]
     pub fn read(buffer: B) -> Result<UmpStream<B>, Refusal> {
-        let record = Record::of(sys::read(buffer.as_ref())?)?;
-        Ok(UmpStream::of(Message { buffer, record }))
+        let answer = sys::read(buffer.as_ref());
+        Refusal::check(answer.refusal, answer.place)?;
+        let number = sys::looked_at(&answer.record.number);
+        let message = Message::of(buffer, answer.record.packets, number);
+        UmpStream::of(answer.record.status, message)
     }
 
     /// The message's words.
+    #[inline]
     #[must_use]
     pub fn data(&self) -> &[u32] {
         self.message().data()
+    }
+
+    /// The message's packets, in order.
+    #[inline]
+    pub fn packets(&self) -> Packets<'_> {
+        Packets::new(self.data())
     }
 }
 
@@ -85,6 +124,7 @@ impl<B: AsRef<[u32]>> UmpStream<B> {
 impl<'a> TryFrom<&'a [u32]> for UmpStream<&'a [u32]> {
     type Error = Refusal;
 
+    #[inline]
     fn try_from(words: &'a [u32]) -> Result<Self, Refusal> {
         UmpStream::read(words)
     }
@@ -111,15 +151,22 @@ pub enum Found<'a> {
     },
     /// A message of one of the kinds.
     Message(UmpStream<&'a [u32]>),
-    /// What is neither, and why.
-    Refused(Refusal),
+    /// What is neither.
+    Refused {
+        /// Why it is refused.
+        refusal: Refusal,
+        /// The words that are refused: the walk goes on after them.
+        words: &'a [u32],
+    },
 }
 
 impl Found<'_> {
     /// Whether it stays the same when more words come: all but refusal 1, too few words, does.
+    #[inline]
     #[must_use]
     pub fn is_final(&self) -> bool {
-        !matches!(self, Found::Refused(Refusal::TooFewWords))
+        let more_may_come = Refusal::TooFewWords;
+        !matches!(self, Found::Refused { refusal, .. } if *refusal == more_may_come)
     }
 }
 
@@ -134,7 +181,8 @@ impl Found<'_> {
 /// let mut messages = Messages::new(&stream);
 /// assert!(matches!(messages.next(), Some((0, Found::Other { ump_type: 1, .. }))));
 /// assert!(matches!(messages.next(), Some((1, Found::Message(UmpStream::FunctionBlockInfo(_))))));
-/// assert_eq!(messages.next(), Some((5, Found::Refused(Refusal::BadDirection))));
+/// let refused = Found::Refused { refusal: Refusal::BadDirection, words: &stream[5..] };
+/// assert_eq!(messages.next(), Some((5, refused)));
 /// assert_eq!(messages.next(), None);
 /// ```
 ///
@@ -193,6 +241,7 @@ impl<'a> Messages<'a> {
 impl<'a> Iterator for Messages<'a> {
     type Item = (usize, Found<'a>);
 
+    #[inline]
     fn next(&mut self) -> Option<(usize, Found<'a>)> {
         let position = self.position;
         let answer = sys::walk(self.words, position);
@@ -201,38 +250,30 @@ impl<'a> Iterator for Messages<'a> {
         }
         self.position = answer.next;
         let words = self.words.get(position..answer.next).unwrap_or(&[]);
-        let found = match answer.found {
-            FOUND_OTHER => Found::Other {
-                ump_type: answer.ump_type as u8,
-                words,
-            },
-            _ => match found_message(&answer) {
-                Ok(record) => Found::Message(UmpStream::of(Message {
-                    buffer: words,
-                    record,
-                })),
-                Err(refusal) => Found::Refused(refusal),
-            },
-        };
-        Some((position, found))
+        if answer.found == FOUND_OTHER {
+            let ump_type = answer.ump_type as u8;
+            return Some((position, Found::Other { ump_type, words }));
+        }
+        match found_message(words, &answer) {
+            Ok(message) => Some((position, Found::Message(message))),
+            Err(refusal) => Some((position, Found::Refused { refusal, words })),
+        }
     }
 }
 
 impl FusedIterator for Messages<'_> {}
 
-/// The record of a message that was found, or why there is none.
-fn found_message(answer: &sys::WalkAnswer) -> Result<Record, Refusal> {
+/// The message that was found, or why there is none.
+#[inline]
+fn found_message<'a>(
+    words: &'a [u32],
+    answer: &WalkAnswer,
+) -> Result<UmpStream<&'a [u32]>, Refusal> {
     Refusal::check(answer.refusal, answer.place)?;
-    Record::of(answer.record)
-}
-
-/// The record of the message that some words start with. Refused as a setting on them would be:
-/// no words are refusal 1, another type is refusal 4.
-pub(crate) fn first_of(words: &[u32]) -> Result<Record, Refusal> {
-    let answer = sys::walk(words, 0);
-    match answer.found {
-        FOUND_END => Err(Refusal::TooFewWords),
-        FOUND_OTHER => Err(Refusal::WrongType(0)),
-        _ => found_message(&answer),
-    }
+    let message = Message::of(
+        words,
+        answer.record.packets,
+        sys::looked_at(&answer.record.number),
+    );
+    UmpStream::of(answer.record.status, message)
 }

@@ -2,11 +2,12 @@
 //!
 //! Every call takes any slice and any numbers, ends with an answer, keeps no pointer and writes
 //! only to the slice that it is lent to write to. An empty Rust slice has a pointer that is
-//! aligned and not null, which is all that the library asks of one.
+//! aligned and not null, which is all that the library asks of one. What an answer's numbers mean
+//! is said in refusal.rs.
 
 #![allow(unsafe_code)]
 
-use crate::Refusal;
+use std::ptr;
 
 pub const FOUND_END: u32 = 0;
 pub const FOUND_OTHER: u32 = 1;
@@ -18,19 +19,20 @@ pub struct Numbers {
     pub status: u32,
     pub packets: usize,
     pub number: [u32; 9],
+    pub reserved: [u32; 5],
 }
 
 #[repr(C)]
-struct Answer {
-    refusal: u32,
-    place: usize,
+pub struct Answer {
+    pub refusal: u32,
+    pub place: usize,
 }
 
 #[repr(C)]
-struct RecordAnswer {
-    refusal: u32,
-    place: usize,
-    record: Numbers,
+pub struct RecordAnswer {
+    pub refusal: u32,
+    pub place: usize,
+    pub record: Numbers,
 }
 
 #[repr(C)]
@@ -45,18 +47,25 @@ pub struct WalkAnswer {
 }
 
 #[repr(C)]
-struct PacketAnswer {
-    refusal: u32,
-    place: usize,
-    format: u32,
-    word: [u32; 4],
+pub struct PacketAnswer {
+    pub refusal: u32,
+    pub place: usize,
+    pub format: u32,
+    pub word: [u32; 4],
 }
 
 #[repr(C)]
-struct SizeAnswer {
-    refusal: u32,
-    place: usize,
-    words: usize,
+pub struct SizeAnswer {
+    pub refusal: u32,
+    pub place: usize,
+    pub words: usize,
+}
+
+#[repr(C)]
+pub struct TextAnswer {
+    pub refusal: u32,
+    pub place: usize,
+    pub length: usize,
 }
 
 #[repr(C)]
@@ -66,23 +75,12 @@ pub struct StepAnswer {
     pub byte_number: usize,
 }
 
-impl Answer {
-    fn done(self) -> Result<(), Refusal> {
-        Refusal::check(self.refusal, self.place)
-    }
-}
-
-impl RecordAnswer {
-    fn record(self) -> Result<Numbers, Refusal> {
-        Refusal::check(self.refusal, self.place).map(|()| self.record)
-    }
-}
-
 extern "C" {
     fn frayedbin_read(words: *const u32, length: usize) -> RecordAnswer;
     fn frayedbin_walk(words: *const u32, length: usize, position: usize) -> WalkAnswer;
     fn frayedbin_packet(words: *const u32, length: usize) -> PacketAnswer;
     fn frayedbin_message_size(words: *const u32, length: usize) -> SizeAnswer;
+    fn frayedbin_text(words: *const u32, length: usize, out: *mut u8, room: usize) -> TextAnswer;
     fn frayedbin_next_byte(
         words: *const u32,
         length: usize,
@@ -92,31 +90,48 @@ extern "C" {
     fn frayedbin_list(bytes: *const u8, length: usize, out: *mut u8, room: usize) -> usize;
     fn frayedbin_fresh(words: *mut u32, length: usize, status: u32) -> Answer;
     fn frayedbin_write(words: *mut u32, length: usize, record: Numbers) -> Answer;
+    fn frayedbin_refusal_text(refusal: u32, out: *mut u8, room: usize) -> usize;
+    fn frayedbin_kind_name(status: u32, out: *mut u8, room: usize) -> usize;
 }
 
-pub fn read(words: &[u32]) -> Result<Numbers, Refusal> {
+#[inline]
+pub fn read(words: &[u32]) -> RecordAnswer {
     // SAFETY: a slice's pointer and length, lent for the call.
-    unsafe { frayedbin_read(words.as_ptr(), words.len()) }.record()
+    unsafe { frayedbin_read(words.as_ptr(), words.len()) }
 }
 
+#[inline]
 pub fn walk(words: &[u32], position: usize) -> WalkAnswer {
     // SAFETY: a slice's pointer and length, lent for the call.
     unsafe { frayedbin_walk(words.as_ptr(), words.len(), position) }
 }
 
-/// The packet's words and its format's code.
-pub fn packet(words: &[u32]) -> Result<([u32; 4], u32), Refusal> {
+#[inline]
+pub fn packet(words: &[u32]) -> PacketAnswer {
     // SAFETY: a slice's pointer and length, lent for the call.
-    let answer = unsafe { frayedbin_packet(words.as_ptr(), words.len()) };
-    Refusal::check(answer.refusal, answer.place).map(|()| (answer.word, answer.format))
+    unsafe { frayedbin_packet(words.as_ptr(), words.len()) }
 }
 
-pub fn message_size(words: &[u32]) -> Result<usize, Refusal> {
+#[inline]
+pub fn message_size(words: &[u32]) -> SizeAnswer {
     // SAFETY: a slice's pointer and length, lent for the call.
-    let answer = unsafe { frayedbin_message_size(words.as_ptr(), words.len()) };
-    Refusal::check(answer.refusal, answer.place).map(|()| answer.words)
+    unsafe { frayedbin_message_size(words.as_ptr(), words.len()) }
 }
 
+/// The whole text of a message, in a vector with room for so many bytes; none where it is refused.
+#[inline]
+pub fn text(words: &[u32], room: usize) -> Vec<u8> {
+    let mut out = Vec::with_capacity(room);
+    // SAFETY: a slice's pointer and length, and the room of a vector that nothing else holds.
+    let answer = unsafe { frayedbin_text(words.as_ptr(), words.len(), out.as_mut_ptr(), room) };
+    if answer.refusal == 0 {
+        // SAFETY: the library has written so many bytes, and never more than there is room for.
+        unsafe { out.set_len(answer.length.min(room)) };
+    }
+    out
+}
+
+#[inline]
 pub fn next_byte(words: &[u32], packet: usize, byte_number: usize) -> StepAnswer {
     // SAFETY: a slice's pointer and length, lent for the call.
     unsafe { frayedbin_next_byte(words.as_ptr(), words.len(), packet, byte_number) }
@@ -128,25 +143,81 @@ pub fn list(bytes: &[u8], out: &mut [u8]) -> usize {
     unsafe { frayedbin_list(bytes.as_ptr(), bytes.len(), out.as_mut_ptr(), out.len()) }
 }
 
-pub fn fresh(words: &mut [u32], status: u32) -> Result<(), Refusal> {
+#[inline]
+pub fn fresh(words: &mut [u32], status: u32) -> Answer {
     // SAFETY: a slice's pointer and length, lent for the call.
-    unsafe { frayedbin_fresh(words.as_mut_ptr(), words.len(), status) }.done()
+    unsafe { frayedbin_fresh(words.as_mut_ptr(), words.len(), status) }
 }
 
-pub fn write(words: &mut [u32], record: Numbers) -> Result<(), Refusal> {
+#[inline]
+pub fn write(words: &mut [u32], record: Numbers) -> Answer {
     // SAFETY: a slice's pointer and length, lent for the call.
-    unsafe { frayedbin_write(words.as_mut_ptr(), words.len(), record) }.done()
+    unsafe { frayedbin_write(words.as_mut_ptr(), words.len(), record) }
+}
+
+/// The record of a fresh message. The crate has it as a constant, and holds that to this.
+#[cfg(test)]
+pub fn record_fresh(status: u32) -> RecordAnswer {
+    extern "C" {
+        fn frayedbin_record_fresh(status: u32) -> RecordAnswer;
+    }
+    // SAFETY: a number alone crosses.
+    unsafe { frayedbin_record_fresh(status) }
+}
+
+/// The sentence of a refusal; empty for a number that is none.
+pub fn refusal_text(refusal: u32) -> String {
+    // SAFETY: a slice's pointer and length, lent for the call.
+    said(|out| unsafe { frayedbin_refusal_text(refusal, out.as_mut_ptr(), out.len()) })
+}
+
+/// The name of a kind, as the listing prints it; empty for a status of no kind.
+pub fn kind_name(status: u32) -> String {
+    // SAFETY: a slice's pointer and length, lent for the call.
+    said(|out| unsafe { frayedbin_kind_name(status, out.as_mut_ptr(), out.len()) })
+}
+
+/// What a call writes that tells its whole length, and ends with a zero byte.
+fn said(call: impl Fn(&mut [u8]) -> usize) -> String {
+    let length = call(&mut []);
+    let mut bytes = vec![0; length + 1];
+    call(&mut bytes);
+    bytes.truncate(length);
+    String::from_utf8(bytes).unwrap_or_default()
+}
+
+/// The first numbers of an answer, and zeros after them, for a caller who keeps them.
+///
+/// Each is read by itself: the library has just written them one by one, and the processor waits
+/// where numbers that were written apart are read at once.
+#[inline]
+pub fn kept<const N: usize>(numbers: &[u32; N], count: usize) -> [u32; N] {
+    let mut kept = [0; N];
+    for (to, from) in kept.iter_mut().zip(numbers).take(count) {
+        // SAFETY: a reference to a number.
+        *to = unsafe { ptr::read_volatile(from) };
+    }
+    kept
+}
+
+/// The numbers of an answer, for a caller who may look at a few: named one by one, so that the
+/// compiler leaves out the others.
+#[inline]
+pub fn looked_at(numbers: &[u32; 9]) -> [u32; 9] {
+    let [a, b, c, d, e, f, g, h, i] = *numbers;
+    [a, b, c, d, e, f, g, h, i]
 }
 
 /// A safe function for each setting of one value on words.
 macro_rules! on_words {
     ($($name:ident($type:ty);)+) => {
-        $(pub fn $name(words: &mut [u32], value: $type) -> Result<(), Refusal> {
+        $(#[inline]
+        pub fn $name(words: &mut [u32], value: $type) -> Answer {
             extern "C" {
                 fn $name(words: *mut u32, length: usize, value: $type) -> Answer;
             }
             // SAFETY: a slice's pointer and length, lent for the call.
-            unsafe { $name(words.as_mut_ptr(), words.len(), value) }.done()
+            unsafe { $name(words.as_mut_ptr(), words.len(), value) }
         })+
     };
 }
@@ -154,12 +225,13 @@ macro_rules! on_words {
 /// A safe function for each setting of a text on words.
 macro_rules! text_on_words {
     ($($name:ident;)+) => {
-        $(pub fn $name(words: &mut [u32], text: &[u8]) -> Result<(), Refusal> {
+        $(#[inline]
+        pub fn $name(words: &mut [u32], text: &[u8]) -> Answer {
             extern "C" {
                 fn $name(words: *mut u32, length: usize, text: *const u8, size: usize) -> Answer;
             }
             // SAFETY: two slices' pointers and lengths, lent for the call; they do not overlap.
-            unsafe { $name(words.as_mut_ptr(), words.len(), text.as_ptr(), text.len()) }.done()
+            unsafe { $name(words.as_mut_ptr(), words.len(), text.as_ptr(), text.len()) }
         })+
     };
 }
@@ -167,25 +239,13 @@ macro_rules! text_on_words {
 /// A safe function for each setting of one value on a record.
 macro_rules! on_record {
     ($($name:ident($type:ty);)+) => {
-        $(pub fn $name(record: Numbers, value: $type) -> Result<Numbers, Refusal> {
+        $(#[inline]
+        pub fn $name(record: Numbers, value: $type) -> RecordAnswer {
             extern "C" {
                 fn $name(record: Numbers, value: $type) -> RecordAnswer;
             }
             // SAFETY: numbers alone cross.
-            unsafe { $name(record, value) }.record()
-        })+
-    };
-}
-
-/// A safe function for each setting of a text on a record.
-macro_rules! text_on_record {
-    ($($name:ident;)+) => {
-        $(pub fn $name(record: Numbers, text: &[u8]) -> Result<Numbers, Refusal> {
-            extern "C" {
-                fn $name(record: Numbers, text: *const u8, size: usize) -> RecordAnswer;
-            }
-            // SAFETY: a slice's pointer and length, lent for the call.
-            unsafe { $name(record, text.as_ptr(), text.len()) }.record()
+            unsafe { $name(record, value) }
         })+
     };
 }
@@ -254,15 +314,11 @@ on_record! {
     frayedbin_record_set_function_block(u32);
 }
 
-text_on_record! {
-    frayedbin_record_set_name;
-    frayedbin_record_set_id;
-}
-
+#[inline]
 pub fn frayedbin_device_identity_set_device_manufacturer(
     words: &mut [u32],
     value: [u32; 3],
-) -> Result<(), Refusal> {
+) -> Answer {
     extern "C" {
         fn frayedbin_device_identity_set_device_manufacturer(
             words: *mut u32,
@@ -277,13 +333,13 @@ pub fn frayedbin_device_identity_set_device_manufacturer(
     unsafe {
         frayedbin_device_identity_set_device_manufacturer(words.as_mut_ptr(), words.len(), a, b, c)
     }
-    .done()
 }
 
+#[inline]
 pub fn frayedbin_device_identity_set_software_version(
     words: &mut [u32],
     value: [u32; 4],
-) -> Result<(), Refusal> {
+) -> Answer {
     extern "C" {
         fn frayedbin_device_identity_set_software_version(
             words: *mut u32,
@@ -299,13 +355,10 @@ pub fn frayedbin_device_identity_set_software_version(
     unsafe {
         frayedbin_device_identity_set_software_version(words.as_mut_ptr(), words.len(), a, b, c, d)
     }
-    .done()
 }
 
-pub fn frayedbin_record_set_device_manufacturer(
-    record: Numbers,
-    value: [u32; 3],
-) -> Result<Numbers, Refusal> {
+#[inline]
+pub fn frayedbin_record_set_device_manufacturer(record: Numbers, value: [u32; 3]) -> RecordAnswer {
     extern "C" {
         fn frayedbin_record_set_device_manufacturer(
             record: Numbers,
@@ -316,13 +369,11 @@ pub fn frayedbin_record_set_device_manufacturer(
     }
     let [a, b, c] = value;
     // SAFETY: numbers alone cross.
-    unsafe { frayedbin_record_set_device_manufacturer(record, a, b, c) }.record()
+    unsafe { frayedbin_record_set_device_manufacturer(record, a, b, c) }
 }
 
-pub fn frayedbin_record_set_software_version(
-    record: Numbers,
-    value: [u32; 4],
-) -> Result<Numbers, Refusal> {
+#[inline]
+pub fn frayedbin_record_set_software_version(record: Numbers, value: [u32; 4]) -> RecordAnswer {
     extern "C" {
         fn frayedbin_record_set_software_version(
             record: Numbers,
@@ -334,7 +385,7 @@ pub fn frayedbin_record_set_software_version(
     }
     let [a, b, c, d] = value;
     // SAFETY: numbers alone cross.
-    unsafe { frayedbin_record_set_software_version(record, a, b, c, d) }.record()
+    unsafe { frayedbin_record_set_software_version(record, a, b, c, d) }
 }
 
 #[cfg(test)]
@@ -342,15 +393,26 @@ mod tests {
     use super::*;
     use std::mem::size_of;
 
+    /// The version of c/frayedbin.h that this file says.
+    #[test]
+    fn the_library_has_the_version_of_this_file() {
+        extern "C" {
+            fn frayedbin_version() -> u32;
+        }
+        // SAFETY: a number alone crosses.
+        assert_eq!(unsafe { frayedbin_version() }, 0x00_02_00);
+    }
+
     /// The sizes that a C compiler for x86-64 gives the structs of c/frayedbin.h.
     #[test]
     fn structs_have_the_sizes_of_c() {
-        assert_eq!(size_of::<Numbers>(), 56);
+        assert_eq!(size_of::<Numbers>(), 72);
         assert_eq!(size_of::<Answer>(), 16);
-        assert_eq!(size_of::<RecordAnswer>(), 72);
-        assert_eq!(size_of::<WalkAnswer>(), 96);
+        assert_eq!(size_of::<RecordAnswer>(), 88);
+        assert_eq!(size_of::<WalkAnswer>(), 112);
         assert_eq!(size_of::<PacketAnswer>(), 40);
         assert_eq!(size_of::<SizeAnswer>(), 24);
+        assert_eq!(size_of::<TextAnswer>(), 24);
         assert_eq!(size_of::<StepAnswer>(), 24);
     }
 }

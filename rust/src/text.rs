@@ -1,4 +1,4 @@
-//! Text, a byte at a time.
+//! Text, as a string and a byte at a time.
 
 use crate::sys;
 use std::iter::FusedIterator;
@@ -25,6 +25,7 @@ pub struct TextBytesIterator<'a> {
 
 impl<'a> TextBytesIterator<'a> {
     /// The text of some words, from the start.
+    #[inline]
     pub fn new(words: &'a [u32]) -> TextBytesIterator<'a> {
         TextBytesIterator {
             words,
@@ -32,17 +33,20 @@ impl<'a> TextBytesIterator<'a> {
             byte_number: 0,
         }
     }
+}
 
-    /// The rest as a string. In a message that was read it is UTF-8.
-    pub(crate) fn into_string(self) -> String {
-        let bytes: Vec<u8> = self.collect();
-        String::from_utf8_lossy(&bytes).into_owned()
-    }
+/// The text of a message of so many packets. In a message that was read it is UTF-8.
+///
+/// With room for 14 bytes a packet, as many as any kind has, the library need not count them first.
+#[inline]
+pub fn string(words: &[u32], packets: usize) -> String {
+    String::from_utf8(sys::text(words, packets * 14)).unwrap_or_default()
 }
 
 impl Iterator for TextBytesIterator<'_> {
     type Item = u8;
 
+    #[inline]
     fn next(&mut self) -> Option<u8> {
         let step = sys::next_byte(self.words, self.packet, self.byte_number);
         self.packet = step.packet;

@@ -1,8 +1,8 @@
 //! Each refusal by number and place, and that a refused call changes no word.
 
 use frayedbin::{
-    message_size, packet, DeviceIdentity, EndpointDiscovery, EndpointInfo, EndpointName,
-    FunctionBlockInfo, FunctionBlockName, Kind, Record, Refusal, UmpStream,
+    message_size, packet, DeviceIdentity, EndpointDiscovery, EndpointInfo, EndpointName, Error,
+    FunctionBlockInfo, FunctionBlockName, Kind, ProductInstanceId, Record, Refusal, UmpStream,
 };
 
 /// The refusal of some words as one message.
@@ -59,51 +59,45 @@ fn reading_refuses_in_the_order_of_the_numbers() {
 #[test]
 fn a_type_refuses_messages_of_other_kinds() {
     let words = [0xF001_0101, 0, 0, 0];
+    let found = Kind::EndpointInfo;
+    let wrong = |expected| Error::WrongKind { expected, found };
     assert!(EndpointInfo::read(words).is_ok());
+    let error = EndpointDiscovery::read(words).unwrap_err();
+    assert_eq!(error, wrong(Kind::EndpointDiscovery));
+    let error = EndpointName::try_from(&words[..]).unwrap_err();
+    assert_eq!(error, wrong(Kind::EndpointName));
+    let error = ProductInstanceId::first(words).unwrap_err();
+    assert_eq!(error, wrong(Kind::ProductInstanceId));
+    let any = UmpStream::read(words).unwrap();
+    assert!(EndpointInfo::try_from(any).is_ok());
+    let error = FunctionBlockName::try_from(any).unwrap_err();
+    assert_eq!(error, wrong(Kind::FunctionBlockName));
+    assert_eq!((error.number(), error.place()), (13, 0));
+    assert_eq!(Refusal::from(error), Refusal::NoSuchField);
     assert_eq!(
-        EndpointDiscovery::read(words).unwrap_err(),
-        Refusal::NoSuchField
+        error.to_string(),
+        "expected function-block-name, found endpoint-info"
     );
-    assert_eq!(
-        EndpointName::try_from(&words[..]).unwrap_err(),
-        Refusal::NoSuchField
-    );
-    assert_eq!(
-        EndpointName::read([0xF005_0000, 0, 0, 0]).unwrap_err(),
-        Refusal::UnknownStatus
-    );
+    let error = EndpointName::read([0xF005_0000, 0, 0, 0]).unwrap_err();
+    assert_eq!(error, Error::Refused(Refusal::UnknownStatus));
 }
 
 #[test]
 fn the_first_message_of_a_buffer() {
     let words = [0xF003_4100, 0, 0, 0, 0x2090_4040];
-    assert_eq!(
-        EndpointName::read(words).unwrap_err(),
-        Refusal::NotWholePackets
-    );
+    let error = EndpointName::read(words).unwrap_err();
+    assert_eq!(error, Error::Refused(Refusal::NotWholePackets));
     let mut name = EndpointName::first(words).unwrap();
     assert_eq!(name.name(), "A");
     assert_eq!(name.data().len(), 4);
     name.set_name("B").unwrap();
     assert_eq!(name.into_buffer(), [0xF003_4200, 0, 0, 0, 0x2090_4040]);
 
-    assert_eq!(EndpointName::first([]).unwrap_err(), Refusal::TooFewWords);
-    assert_eq!(
-        EndpointName::first([0x2090_4040]).unwrap_err(),
-        Refusal::WrongType(0)
-    );
-    assert_eq!(
-        EndpointName::first([0x4090_4040]).unwrap_err(),
-        Refusal::TooFewWords
-    );
-    assert_eq!(
-        EndpointName::first([0xF001_0000, 0, 0, 0]).unwrap_err(),
-        Refusal::NoSuchField
-    );
-    assert_eq!(
-        EndpointName::first([0xFC03_0000, 0, 0, 0]).unwrap_err(),
-        Refusal::WrongFormat(0)
-    );
+    let refused = |words: &[u32]| EndpointName::first(words).unwrap_err().refusal();
+    assert_eq!(refused(&[]), Refusal::TooFewWords);
+    assert_eq!(refused(&[0x2090_4040]), Refusal::WrongType(0));
+    assert_eq!(refused(&[0x4090_4040]), Refusal::TooFewWords);
+    assert_eq!(refused(&[0xFC03_0000, 0, 0, 0]), Refusal::WrongFormat(0));
 }
 
 #[test]
@@ -111,7 +105,7 @@ fn a_fresh_message_needs_a_whole_packet() {
     let mut words = [7; 3];
     assert_eq!(
         EndpointInfo::new(&mut words[..]).unwrap_err(),
-        Refusal::NoRoom
+        Error::Refused(Refusal::NoRoom)
     );
     assert_eq!(words, [7; 3]);
     let mut words = [7; 6];
@@ -164,40 +158,67 @@ fn numbers_above_their_largest() {
     assert_eq!(block.data(), [0xF011_7F03, 0x0F00_0000, 0, 0]);
 }
 
+/// The error of a text that is too long.
+fn too_long(refusal: Refusal, length: usize, most: usize) -> Result<(), Error> {
+    Err(Error::TextTooLong {
+        refusal,
+        length,
+        most,
+    })
+}
+
 #[test]
 fn text_is_refused_with_11_then_3_then_14() {
     let mut name = EndpointName::new([0; 8]).unwrap();
     name.set_name("before").unwrap();
     let before = name.into_buffer();
-    let bad: Vec<u8> = vec![0xFF; 2000];
-    assert_eq!(name.set_name(bad), Err(Refusal::NotUtf8));
-    assert_eq!(name.set_name([0xC3, 0x00, 0xA9]), Err(Refusal::NotUtf8));
-    assert_eq!(name.set_name("a".repeat(897)), Err(Refusal::TooManyPackets));
-    assert_eq!(name.set_name("a".repeat(29)), Err(Refusal::NoRoom));
+    let not_utf8 = Err(Error::Refused(Refusal::NotUtf8));
+    assert_eq!(name.set_name(vec![0xFF; 2000]), not_utf8);
+    assert_eq!(name.set_name([0xC3, 0x00, 0xA9]), not_utf8);
+    assert_eq!(
+        name.set_name("a".repeat(897)),
+        too_long(Refusal::TooManyPackets, 897, 28)
+    );
+    assert_eq!(
+        name.set_name("a".repeat(29)),
+        too_long(Refusal::NoRoom, 29, 28)
+    );
     assert_eq!(name.into_buffer(), before);
     assert_eq!(name.name(), "before");
 }
 
+/// Text of as many bytes as an error says is taken.
 #[test]
 fn the_longest_texts() {
-    let mut words = vec![0; frayedbin::MOST_WORDS];
+    let mut words = vec![0; frayedbin::MOST_WORDS + 4];
     let mut name = EndpointName::new(&mut words[..]).unwrap();
-    assert_eq!(
-        name.set_name("a".repeat(frayedbin::MOST_NAME_BYTES)),
-        Ok(())
-    );
+    let longest = frayedbin::MOST_NAME_BYTES;
+    assert_eq!(name.set_name("a".repeat(longest)), Ok(()));
     assert_eq!(name.record().packets(), frayedbin::MOST_PACKETS);
     assert_eq!(name.name(), "a".repeat(896));
-    assert_eq!(name.set_name("a".repeat(897)), Err(Refusal::TooManyPackets));
+    assert_eq!(
+        name.set_name("a".repeat(897)),
+        too_long(Refusal::TooManyPackets, 897, longest)
+    );
 
     let mut name = FunctionBlockName::new(&mut words[..]).unwrap();
-    assert_eq!(
-        name.set_name("a".repeat(frayedbin::MOST_BLOCK_NAME_BYTES)),
-        Ok(())
-    );
+    let longest = frayedbin::MOST_BLOCK_NAME_BYTES;
+    assert_eq!(name.set_name("a".repeat(longest)), Ok(()));
     assert_eq!(name.record().packets(), frayedbin::MOST_PACKETS);
     assert_eq!(name.name(), "a".repeat(832));
-    assert_eq!(name.set_name("a".repeat(833)), Err(Refusal::TooManyPackets));
+    assert_eq!(
+        name.set_name("a".repeat(833)),
+        too_long(Refusal::TooManyPackets, 833, longest)
+    );
+
+    let mut id = ProductInstanceId::new([0; 14]).unwrap();
+    let error = id.set_id("a".repeat(43)).unwrap_err();
+    assert_eq!(
+        error.to_string(),
+        "a text of 43 bytes is too long: at most 42 bytes fit here"
+    );
+    assert_eq!((error.number(), error.place()), (14, 0));
+    assert_eq!(id.set_id("a".repeat(42)), Ok(()));
 }
 
 #[test]
@@ -207,8 +228,6 @@ fn records_refuse_with_13_then_12() {
         name.set_number_of_function_blocks(128),
         Err(Refusal::NoSuchField)
     );
-    assert_eq!(name.set_name("text"), Err(Refusal::NoSuchField));
-    assert_eq!(name.set_id(b"text"), Err(Refusal::NoSuchField));
     assert_eq!(name.write(&mut [0; 4]), Err(Refusal::NoSuchField));
     let info = Record::new(Kind::EndpointInfo);
     assert_eq!(
@@ -243,8 +262,6 @@ fn a_refusal_says_number_sentence_and_place() {
         "refusal 8: a later packet has another block number, packet 1"
     );
     let error: Box<dyn std::error::Error> = Refusal::NoRoom.into();
-    assert_eq!(
-        error.to_string(),
-        "refusal 14: the buffer has too few whole packets"
-    );
+    assert_eq!(error.to_string(), "refusal 14: there is too little room");
+    assert_eq!(Error::from(refusal).to_string(), refusal.to_string());
 }

@@ -1,13 +1,14 @@
 //! What is set is read back, by getters, from words and from records; nothing else changes.
 
 use frayedbin::{
-    DeviceIdentity, Direction, EndpointDiscovery, EndpointInfo, EndpointName, FunctionBlockInfo,
-    FunctionBlockName, Kind, Midi1Port, ProductInstanceId, Record, Refusal, UiHint, UmpStream,
+    DeviceIdentity, Direction, EndpointDiscovery, EndpointInfo, EndpointName, Error,
+    FunctionBlockInfo, FunctionBlockName, Kind, Midi1Port, ProductInstanceId, Record, UiHint,
+    UmpStream,
 };
 
 /// Settings in any order give the words of their last values, which are read back.
 #[test]
-fn endpoint_discovery() -> Result<(), Refusal> {
+fn endpoint_discovery() -> Result<(), Error> {
     let mut m = EndpointDiscovery::new([9; 4])?;
     m.set_request_stream_configuration(true)?;
     m.set_request_product_instance_id(true)?;
@@ -31,7 +32,7 @@ fn endpoint_discovery() -> Result<(), Refusal> {
 }
 
 #[test]
-fn endpoint_info() -> Result<(), Refusal> {
+fn endpoint_info() -> Result<(), Error> {
     let mut m = EndpointInfo::new(vec![9; 4])?;
     m.set_supports_sending_jr_timestamps(true)?;
     m.set_supports_receiving_jr_timestamps(true)?;
@@ -48,7 +49,7 @@ fn endpoint_info() -> Result<(), Refusal> {
 }
 
 #[test]
-fn device_identity() -> Result<(), Refusal> {
+fn device_identity() -> Result<(), Error> {
     let mut m = DeviceIdentity::new([9; 4])?;
     m.set_device_manufacturer([1, 2, 3])?;
     m.set_device_family(0x1234)?;
@@ -67,7 +68,7 @@ fn device_identity() -> Result<(), Refusal> {
 }
 
 #[test]
-fn function_block_info() -> Result<(), Refusal> {
+fn function_block_info() -> Result<(), Error> {
     let mut m = FunctionBlockInfo::new([9; 4])?;
     for hint in [
         UiHint::Sender,
@@ -113,7 +114,7 @@ fn function_block_info() -> Result<(), Refusal> {
 
 /// Bits in no field are read past and kept.
 #[test]
-fn bits_in_no_field_are_kept() -> Result<(), Refusal> {
+fn bits_in_no_field_are_kept() -> Result<(), Error> {
     let mut m = EndpointInfo::read([0xF001_0000, 0x00FF_FCFC, 5, 6])?;
     m.set_number_of_function_blocks(1)?;
     m.set_supports_midi1_protocol(true)?;
@@ -126,7 +127,7 @@ fn bits_in_no_field_are_kept() -> Result<(), Refusal> {
 }
 
 #[test]
-fn texts_of_every_length() -> Result<(), Refusal> {
+fn texts_of_every_length() -> Result<(), Error> {
     let text = "Keys, Knöpfe & Pads, 鍵盤とパッド, 🎹".repeat(20);
     let ends = text
         .char_indices()
@@ -153,7 +154,7 @@ fn texts_of_every_length() -> Result<(), Refusal> {
 
 /// A zero byte in a text is a character of its own, and vanishes on reading.
 #[test]
-fn a_zero_byte_vanishes() -> Result<(), Refusal> {
+fn a_zero_byte_vanishes() -> Result<(), Error> {
     let mut m = EndpointName::new([0; 4])?;
     m.set_name(b"a\0b")?;
     assert_eq!(m.data(), [0xF003_6100, 0x6200_0000, 0, 0]);
@@ -165,7 +166,7 @@ fn a_zero_byte_vanishes() -> Result<(), Refusal> {
 
 /// A record of a fixed kind is written as the message that it was read from.
 #[test]
-fn records() -> Result<(), Refusal> {
+fn records() -> Result<(), Error> {
     let messages = [
         [0xF000_0102, 0x0000_001F, 0, 0],
         [0xF001_0101, 0xFF00_0303, 0, 0],
@@ -184,7 +185,7 @@ fn records() -> Result<(), Refusal> {
 
 /// Chained settings on a record give what settings on words do.
 #[test]
-fn settings_on_a_record() -> Result<(), Refusal> {
+fn settings_on_a_record() -> Result<(), Error> {
     let record = Record::new(Kind::FunctionBlockInfo)
         .set_active(true)?
         .set_function_block_number(3)?
@@ -236,7 +237,7 @@ fn settings_on_a_record() -> Result<(), Refusal> {
 
 /// A new record is that of a fresh message.
 #[test]
-fn new_records() -> Result<(), Refusal> {
+fn new_records() -> Result<(), Error> {
     assert_eq!(
         Record::new(Kind::EndpointDiscovery),
         EndpointDiscovery::new([9; 8])?.record()
@@ -270,7 +271,7 @@ fn new_records() -> Result<(), Refusal> {
 
 /// Messages print their fields by name.
 #[test]
-fn debug() -> Result<(), Refusal> {
+fn debug() -> Result<(), Error> {
     let name = FunctionBlockName::read([0xF012_0541, 0, 0, 0])?;
     assert_eq!(
         format!("{name:?}"),

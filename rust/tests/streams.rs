@@ -27,6 +27,11 @@ const SAMPLE_LISTED: &str = "\
 end 13 0
 ";
 
+/// What a walk answers where it refuses some words.
+fn refused(position: usize, refusal: Refusal, words: &[u32]) -> (usize, Found<'_>) {
+    (position, Found::Refused { refusal, words })
+}
+
 fn bytes(words: &[u32]) -> Vec<u8> {
     words.iter().flat_map(|word| word.to_be_bytes()).collect()
 }
@@ -58,7 +63,7 @@ fn the_sample_is_walked() {
         }
         other => panic!("{other:?}"),
     }
-    assert_eq!(found[3], (9, Found::Refused(Refusal::BadDirection)));
+    assert_eq!(found[3], refused(9, Refusal::BadDirection, &SAMPLE[9..13]));
 }
 
 #[test]
@@ -96,13 +101,13 @@ fn a_walk_goes_on_after_a_refusal() {
         0xF003_0000,
     ];
     let found: Vec<_> = Messages::new(&words).collect();
-    assert_eq!(found[0], (0, Found::Refused(Refusal::StatusDiffers(1))));
+    assert_eq!(found[0], refused(0, Refusal::StatusDiffers(1), &words[..4]));
     assert!(matches!(
         found[1],
         (4, Found::Message(UmpStream::EndpointInfo(_)))
     ));
-    assert_eq!(found[2], (8, Found::Refused(Refusal::WrongFormat(0))));
-    assert_eq!(found[3], (12, Found::Refused(Refusal::TooFewWords)));
+    assert_eq!(found[2], refused(8, Refusal::WrongFormat(0), &words[8..12]));
+    assert_eq!(found[3], refused(12, Refusal::TooFewWords, &words[12..]));
     assert_eq!(found.len(), 4);
 }
 
@@ -112,7 +117,7 @@ fn a_walk_starts_and_ends_anywhere() {
     assert_eq!(messages.position(), 9);
     assert_eq!(
         messages.next(),
-        Some((9, Found::Refused(Refusal::BadDirection)))
+        Some(refused(9, Refusal::BadDirection, &SAMPLE[9..]))
     );
     assert_eq!(messages.position(), 13);
     assert_eq!(messages.next(), None);
@@ -135,7 +140,7 @@ fn words_that_arrive_change_no_final_answer() {
         let arrived = [1, 5, 9, 13, 21].iter().filter(|end| **end <= length);
         assert_eq!(settled.len(), arrived.count());
     }
-    assert!(Found::Refused(Refusal::TooManyPackets).is_final());
+    assert!(refused(0, Refusal::TooManyPackets, &words).1.is_final());
 }
 
 /// A chain in which packet 64 is still due is refused, even with no words left.
@@ -150,7 +155,10 @@ fn sixty_four_packets_and_no_end() {
         };
     }
     let first = Messages::new(&words).next();
-    assert_eq!(first, Some((0, Found::Refused(Refusal::TooManyPackets))));
+    assert_eq!(
+        first,
+        Some(refused(0, Refusal::TooManyPackets, &words[..4]))
+    );
     words[252] = 0xFC03_0000;
     let (_, found) = Messages::new(&words).next().unwrap();
     assert!(matches!(found, Found::Message(UmpStream::EndpointName(_))));

@@ -1,7 +1,7 @@
 //! The twelve cases that are proved of the definitions, run through the crate.
 
 use frayedbin::{
-    EndpointInfo, EndpointName, FunctionBlockInfo, FunctionBlockName, Refusal, UmpStream,
+    EndpointInfo, EndpointName, Error, FunctionBlockInfo, FunctionBlockName, Refusal, UmpStream,
 };
 
 const FULL: u32 = 0x6161_6161;
@@ -107,7 +107,7 @@ fn case_9_zeros_are_dropped_before_the_text_is_checked() {
 fn case_10_text_that_is_not_utf_8() {
     assert_eq!(
         EndpointName::read(packet(0xF003_C328)),
-        Err::<EndpointName<[u32; 4]>, _>(Refusal::NotUtf8)
+        Err::<EndpointName<[u32; 4]>, _>(Error::Refused(Refusal::NotUtf8))
     );
 }
 
