@@ -1,5 +1,5 @@
 // Lists the big-endian words of standard input: document 01's listing program.
-// A program has no exit status: what goes wrong is told on standard error, and the listing then lacks its last line.
+// A program has no exit status: what goes wrong is told on standard error.
 ghost use Rattle.io.specs.Counts.{Counts};
 use libc::STDERR_FILENO;
 use libc::STDIN_FILENO;
@@ -38,9 +38,7 @@ fn list_input() {
     let mut input = [0u8; 32769];
     let taken = read_input(&mut input);
     if taken.failed {
-        // No part is listed, so that nobody takes it for the whole.
         io::write_all(STDERR_FILENO, b"dump: the input could not be read\n");
-        return;
     }
     let n = taken.bytes;
     let mut out = [0u8; listing::LISTING_ROOM];
