@@ -1,16 +1,22 @@
 // Answers as structs of numbers. A refusal's number is 0 where nothing was refused.
 ghost use mathlib.Core.Path.{_≡_};
 ghost use Rattle.counts.specs.Counts.{word};
+ghost use Rattle.kinds.specs.Fields.{start};
+ghost use Rattle.records.specs.Records.{recordOf};
+ghost use Rattle.numbers.specs.Numbers.{asNumbers};
 ghost use Rattle.records.specs.declared.answers.Answer.{Answer};
 ghost use Rattle.records.specs.declared.answers.Walked.the-variants as W;
 ghost use Rattle.c_structs.specs.Crossed.{answered, withNumbers, withRefusal, readCrossed, foundCrossed, walkCrossed, packetCrossed, sizeCrossed, copyCrossed, byteCrossed, stepCrossed, editedCrossed};
 use kinds::choices::format_code;
+use kinds::kind::Kind;
 use kinds::refusal::Refusal;
 use kinds::refusal::refusal_number;
 use kinds::refusal::refusal_place;
 use numbers::Numbers;
 use numbers::of_record::no_numbers;
 use numbers::of_record::numbers_of;
+use numbers::of_record::of_text;
+use numbers::set_one::with_number;
 use reading::packet;
 use records::answers::Answer;
 use records::answers::Edited;
@@ -121,6 +127,17 @@ pub fn of_numbers(numbers: Numbers) -> RecordAnswer
         place: 0,
         numbers,
     }
+}
+
+// The record of a fresh message: all numbers are 0 but a block info's direction.
+pub fn of_fresh(kind: Kind) -> RecordAnswer
+    ensures { λ r. ⌜ r ≡ withNumbers (asNumbers (recordOf kind 1 start)) ⌝ }
+{
+    let numbers = of_text(kind, 1, 0);
+    let Kind::FunctionBlockInfo = kind else {
+        return of_numbers(numbers);
+    };
+    of_numbers(with_number(numbers, 9, 4, 3))
 }
 
 pub fn of_read(read: Read) -> RecordAnswer

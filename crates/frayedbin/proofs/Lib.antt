@@ -1,3 +1,4 @@
 pub mod Walks
 pub mod OneNumber
+pub mod Texts
 pub mod Told

@@ -1,6 +1,6 @@
 -- Calls with a code or a record from C, which may name no choice or be no record.
 use Prim.Native.Nat.{ℕ, _^_}
-use mathlib.Core.List.{List, [], _∷_}
+use mathlib.Core.List.{List}
 use lib.ListN.{length}
 use lib.Dec.{ltb}
 use Rattle.laws.specs.Pick.{pick}
@@ -10,14 +10,12 @@ use Rattle.kinds.specs.declared.kind.Kind.{Kind}
 use Rattle.kinds.specs.declared.kind.Known.{Known}
 use Rattle.kinds.specs.declared.kind.Known.the-variants.{Is, Unknown}
 use Rattle.kinds.specs.declared.refusal.Refusal.the-variants.{UnknownStatus, NumberTooLarge, NoSuchField}
-use Rattle.kinds.specs.Fields.{Number, Setting}
+use Rattle.kinds.specs.Fields.{Number, Setting, start}
 use Rattle.kinds.specs.Layout.{layout, kindOf}
 use Rattle.table.specs.Places.{slotAt}
+use Rattle.records.specs.Records.{recordOf}
 use Rattle.records.specs.Settings.{lacks, setRecord}
-use Rattle.records.specs.declared.answers.Answer.{Answer}
-use Rattle.records.specs.declared.answers.Answer.the-variants as A
-use Rattle.standard.specs.Reading.{readOf}
-use Rattle.standard.specs.Words.{Outcome, unchanged, setOn, freshOn, writeOn}
+use Rattle.standard.specs.Words.{Outcome, unchanged, setOn, writeOn}
 use Rattle.numbers.specs.declared.Numbers.{Numbers}
 use Rattle.c_structs.specs.declared.answers.RecordAnswer.{RecordAnswer}
 use Rattle.numbers.specs.declared.to_record.FromNumbers.{FromNumbers}
@@ -28,8 +26,8 @@ use Rattle.c_structs.specs.declared.choices.PortFromCode.{PortFromCode}
 use Rattle.c_structs.specs.declared.choices.PortFromCode.the-variants as P
 use Rattle.c_structs.specs.declared.choices.DirectionFromCode.{DirectionFromCode}
 use Rattle.c_structs.specs.declared.choices.DirectionFromCode.the-variants as D
-use Rattle.c_structs.specs.Crossed.{withNumbers, withRefusal, readCrossed, editedCrossed}
-use Rattle.numbers.specs.Numbers.{noNumbers}
+use Rattle.c_structs.specs.Crossed.{withNumbers, withRefusal, editedCrossed}
+use Rattle.numbers.specs.Numbers.{asNumbers, noNumbers}
 use Rattle.numbers.specs.FromNumbers.{fromKind, fromOwn, fromFixed}
 use Rattle.numbers.specs.SetOne.{withNumber}
 use Rattle.c_structs.specs.Codes.{hintFromCode, portFromCode, directionFromCode}
@@ -116,13 +114,10 @@ writeFrom (G.Refused r) ws = unchanged r ws
 abbrev pub writeIn : Numbers → List ℕ → Outcome
 writeIn c ws = writeFrom (fromFixed c) ws
 
--- ---- THE RECORD OF A FRESH MESSAGE: what is read of one packet made fresh
-abbrev freshSaid : Answer → List ℕ → RecordAnswer
-freshSaid A.Done ws = readCrossed (readOf ws)
-freshSaid (A.Refused r) ws = withRefusal r noNumbers
-
-abbrev freshRead : Outcome → RecordAnswer
-freshRead o = freshSaid (o .answer) (o .words)
+-- ---- the record of a fresh message: one packet, and each field at its starting value
+abbrev freshKnown : Known → RecordAnswer
+freshKnown Unknown = withRefusal UnknownStatus noNumbers
+freshKnown (Is k) = withNumbers (asNumbers (recordOf k 1 start))
 
 abbrev pub freshIn : ℕ → RecordAnswer
-freshIn status = freshRead (freshOn status (0 ∷ 0 ∷ 0 ∷ 0 ∷ []))
+freshIn status = freshKnown (kindOf status)

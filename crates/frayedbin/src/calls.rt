@@ -20,6 +20,7 @@ use c_structs::answers::of_answer;
 use c_structs::answers::of_copy;
 use c_structs::answers::of_end;
 use c_structs::answers::of_found;
+use c_structs::answers::of_fresh;
 use c_structs::answers::of_other;
 use c_structs::answers::of_packet;
 use c_structs::answers::of_read;
@@ -32,6 +33,8 @@ use counts::PacketNumber;
 use counts::TextByteNumber;
 use counts::WordNumber;
 use kinds::kind::Kind;
+use kinds::kind::Known;
+use kinds::refusal::Refusal;
 use numbers::Numbers;
 use numbers::of_record::no_numbers;
 use numbers::of_record::of_device_identity;
@@ -45,11 +48,12 @@ use reading::by_byte;
 use reading::heads::type_of;
 use reading::message;
 use reading::packet;
-use records::answers::Answer;
 use records::answers::Walked;
 use records::message::Message;
+use table::rows::kind_of;
 use text::TextPlace;
-use text_copy::copy_text;
+use text_copy::TextCopy;
+use text_copy::copy_kind;
 use walking::helpers::other_size;
 
 #[no_mangle]
@@ -131,13 +135,24 @@ pub extern "C" fn frayedbin_next_byte(
     of_step(by_byte::next_byte(words, place))
 }
 
-// The whole text of one message.
+// The whole text of one message. It reads by `frayedbin_read`: a second caller of `read` would keep the compiler from inlining that.
 #[no_mangle]
 pub extern "C" fn frayedbin_text(words: &[u32], out: &mut [u8]) -> TextAnswer
     ensures answer { λ r. ⌜ r ≡ copyCrossed (copyOn (now (words .entry)) (now (out .entry)) .answer) ⌝ }
     ensures bytes { λ r. ⌜ now (out .exit) ≡ copyOn (now (words .entry)) (now (out .entry)) .bytes ⌝ }
 {
-    of_copy(copy_text(words, out))
+    let read = frayedbin_read(words);
+    if read.refusal != 0 {
+        return TextAnswer {
+            refusal: read.refusal,
+            place: read.place,
+            length: 0,
+        };
+    }
+    match kind_of(read.numbers.status) {
+        Known::Is(kind) => of_copy(copy_kind(kind, words, out)),
+        Known::Unknown => of_copy(TextCopy::Refused(Refusal::UnknownStatus)),
+    }
 }
 
 #[no_mangle]
@@ -148,15 +163,13 @@ pub extern "C" fn frayedbin_fresh(words: &mut [u32], status: u32) -> Answered
     of_answer(writing::fresh::fresh(words, status))
 }
 
-// A record is started by reading a fresh message of one packet.
 #[no_mangle]
 pub extern "C" fn frayedbin_record_fresh(status: u32) -> RecordAnswer
     ensures { λ r. ⌜ r ≡ freshIn status ⌝ }
 {
-    let mut words = [0u32; 4];
-    match writing::fresh::fresh(&mut words, status) {
-        Answer::Done => of_read(message::read(&words)),
-        Answer::Refused(refusal) => refused_record(refusal, no_numbers()),
+    match kind_of(status) {
+        Known::Is(kind) => of_fresh(kind),
+        Known::Unknown => refused_record(Refusal::UnknownStatus, no_numbers()),
     }
 }
 

@@ -3,15 +3,15 @@ ghost use mathlib.Core.Path.{_≡_};
 ghost use Prim.Native.Nat.{_-_, _/_, _<_, _≤_};
 ghost use lib.ListN.{length};
 ghost use Rattle.text.specs.Bytes.{textOf};
-ghost use Rattle.records.specs.Records.{kindIn};
 ghost use Rattle.text_copy.specs.Copied.{copyText, copyKind, copyOn};
 use crate::count::text_length;
 use crate::put::put_packets;
 use counts::TextByteNumber;
+use kinds::kind::Kind;
 use kinds::refusal::Refusal;
 use reading::message::read;
 use records::answers::Read;
-use records::message::Message;
+use records::message::kind_in;
 use text::packets::packets_of;
 
 mod count;
@@ -50,22 +50,19 @@ fn copy_packets(words: &[u32], offset: usize, out: &mut [u8]) -> TextCopy
     put_whole(words, offset, out)
 }
 
-// Copies the text of a message that was read from these words.
-fn copy_message(message: Message, words: &[u32], out: &mut [u8]) -> TextCopy
-    ensures answer { λ r. ⌜ r ≡ copyKind (kindIn message) (now (words .entry)) (now (out .entry)) .answer ⌝ }
-    ensures bytes { λ r. ⌜ now (out .exit) ≡ copyKind (kindIn message) (now (words .entry)) (now (out .entry)) .bytes ⌝ }
+// Copies the text of words as those of a kind; whether they are a message is not looked at.
+pub fn copy_kind(kind: Kind, words: &[u32], out: &mut [u8]) -> TextCopy
+    ensures answer { λ r. ⌜ r ≡ copyKind kind (now (words .entry)) (now (out .entry)) .answer ⌝ }
+    ensures bytes { λ r. ⌜ now (out .exit) ≡ copyKind kind (now (words .entry)) (now (out .entry)) .bytes ⌝ }
 {
-    match message {
-        Message::EndpointDiscovery(_) => TextCopy::Refused(Refusal::NoSuchField),
-        Message::EndpointInfo(_) => TextCopy::Refused(Refusal::NoSuchField),
-        Message::DeviceIdentity(_) => TextCopy::Refused(Refusal::NoSuchField),
-        Message::EndpointName(_) => copy_packets(words, 0, out),
-        Message::ProductInstanceId(_) => copy_packets(words, 0, out),
-        Message::FunctionBlockInfo(_) => TextCopy::Refused(Refusal::NoSuchField),
-        Message::FunctionBlockName {
-            function_block: _,
-            packets: _,
-        } => copy_packets(words, 1, out),
+    match kind {
+        Kind::EndpointDiscovery => TextCopy::Refused(Refusal::NoSuchField),
+        Kind::EndpointInfo => TextCopy::Refused(Refusal::NoSuchField),
+        Kind::DeviceIdentity => TextCopy::Refused(Refusal::NoSuchField),
+        Kind::EndpointName => copy_packets(words, 0, out),
+        Kind::ProductInstanceId => copy_packets(words, 0, out),
+        Kind::FunctionBlockInfo => TextCopy::Refused(Refusal::NoSuchField),
+        Kind::FunctionBlockName => copy_packets(words, 1, out),
     }
 }
 
@@ -76,6 +73,6 @@ pub fn copy_text(words: &[u32], out: &mut [u8]) -> TextCopy
 {
     match read(words) {
         Read::Refused(refusal) => TextCopy::Refused(refusal),
-        Read::Message(message) => copy_message(message, words, out),
+        Read::Message(message) => copy_kind(kind_in(message), words, out),
     }
 }

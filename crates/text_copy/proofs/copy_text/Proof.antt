@@ -12,10 +12,11 @@ returns c = rw (← c .before .before .before .read .ensures, c .before .refusal
 returns-2 : tie.Need-returns-2
 unfolding copyOn
 returns-2 c =
-    let m = c .before .before .before .before .before in
-    rw (← m .before .before .read .ensures, m .message .given .1) (c .before .before .copy-message .ensures)
+    let k = c .before .before .before .before in
+    let m = k .before .before in
+    rw (← m .before .before .read .ensures, m .message .given .1, ← k .kind-in .ensures) (c .before .before .copy-kind .ensures)
 
 pub copy-text-spec : {M : Type 1} → statement M
 copy-text-spec =
     tie.close (tie.spec (λ c κs. search needs) (λ c. search needs) (λ c. search needs)
-    (λ c κs. search needs) returns (λ c. search needs) returns-2)
+    (λ c κs. search needs) (λ c κs. search needs) returns (λ c. search needs) returns-2)

@@ -1,13 +1,13 @@
--- `copy_message` meets its contract, kind by kind.
+-- `copy_kind` meets its contract, kind by kind.
 use mathlib.Core.Path.{refl}
 use Rattle.kinds.specs.Layout.{layout}
 use borrow.Author.Needs.{needs}
-use Rattle.text_copy.proofs.copy_message.Statement.{statement}
-use Rattle.text_copy.proofs.copy_message.Tie as tie
+use Rattle.text_copy.proofs.copy_kind.Statement.{statement}
+use Rattle.text_copy.proofs.copy_kind.Tie as tie
 
-pub copy-message-spec : {M : Type 1} → statement M
+pub copy-kind-spec : {M : Type 1} → statement M
 unfolding layout
-copy-message-spec =
+copy-kind-spec =
     tie.close (tie.spec (λ c. search needs) (λ c. search needs) (λ c. search needs)
     (λ c. search needs) (λ c κs. search needs) (λ c. search needs) (λ c κs. search needs)
     (λ c. search needs) (λ c. search needs) (λ c κs. search needs)
