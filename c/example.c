@@ -6,7 +6,7 @@
 #include <stdlib.h>
 #include <string.h>
 
-enum { ROOM = 128 };
+enum { ROOM = 128, LINE = 80 };
 
 /* Messages one after the other, and how many words they take. */
 typedef struct stream {
@@ -20,11 +20,19 @@ typedef struct stream {
 static uint32_t *head(stream *s) { return s->words + s->used; }
 static size_t room(const stream *s) { return ROOM - s->used; }
 
-/* Nothing below should be refused: what is, ends the program. */
+/* A call's answer as a line: its number, its sentence, its place. */
+static void print_refusal(FILE *to, frayedbin_answer answer) {
+    uint8_t sentence[LINE];
+    frayedbin_refusal_text(answer.refusal, sentence, sizeof sentence);
+    fprintf(to, "refusal %u: %s, place %zu\n", (unsigned)answer.refusal, (const char *)sentence,
+            answer.place);
+}
+
+/* What should not be refused ends the program if it is. */
 static void must(const char *what, frayedbin_answer answer) {
     if (answer.refusal != FRAYEDBIN_DONE) {
-        fprintf(stderr, "%s: refused %u, place %zu\n", what, (unsigned)answer.refusal,
-                answer.place);
+        fprintf(stderr, "%s: ", what);
+        print_refusal(stderr, answer);
         exit(EXIT_FAILURE);
     }
 }
@@ -47,7 +55,8 @@ static void keep(stream *s) {
 
 /* The host's question, by settings on a record. */
 static void ask(stream *s) {
-    frayedbin_record r = {FRAYEDBIN_ENDPOINT_DISCOVERY, 1, {0}};
+    frayedbin_record r =
+        record_of("fresh", frayedbin_record_fresh(FRAYEDBIN_ENDPOINT_DISCOVERY));
     r = record_of("major", frayedbin_record_set_ump_version_major(r, 1));
     r = record_of("minor", frayedbin_record_set_ump_version_minor(r, 1));
     r = record_of("info", frayedbin_record_set_request_endpoint_info(r, true));
@@ -140,14 +149,11 @@ static void answer(const stream *question, stream *s) {
 /* ---- printing */
 
 static void print_text(const char *what, const uint32_t *words, size_t length) {
-    frayedbin_step_answer step = {0, 0, 0};
-    printf("  %s: \"", what);
-    for (;;) {
-        step = frayedbin_next_byte(words, length, step.packet, step.byte_number);
-        if (step.byte == 0) break;
-        putchar((int)step.byte);
-    }
-    printf("\"\n");
+    uint8_t text[FRAYEDBIN_MOST_NAME_BYTES];
+    frayedbin_text_answer copied = frayedbin_text(words, length, text, sizeof text);
+    frayedbin_answer plain = {copied.refusal, copied.place};
+    must(what, plain);
+    printf("  %s: \"%.*s\"\n", what, (int)copied.length, (const char *)text);
 }
 
 static void print_version(const uint32_t *number) {
@@ -209,21 +215,10 @@ static void print_block_name(const uint32_t *number, const uint32_t *words, size
     print_text("name", words, length);
 }
 
-static const char *kind_name(uint32_t status) {
-    switch (status) {
-    case FRAYEDBIN_ENDPOINT_DISCOVERY: return "endpoint discovery";
-    case FRAYEDBIN_ENDPOINT_INFO: return "endpoint info";
-    case FRAYEDBIN_DEVICE_IDENTITY: return "device identity";
-    case FRAYEDBIN_ENDPOINT_NAME: return "endpoint name";
-    case FRAYEDBIN_PRODUCT_INSTANCE_ID: return "product instance id";
-    case FRAYEDBIN_FUNCTION_BLOCK_INFO: return "function block info";
-    case FRAYEDBIN_FUNCTION_BLOCK_NAME: return "function block name";
-    default: return "?";
-    }
-}
-
 static void print_message(frayedbin_record record, const uint32_t *words, size_t length) {
-    printf("%s, %zu packet%s\n", kind_name(record.status), record.packets,
+    uint8_t name[LINE];
+    frayedbin_kind_name(record.status, name, sizeof name);
+    printf("%s, %zu packet%s\n", (const char *)name, record.packets,
            record.packets == 1 ? "" : "s");
     switch (record.status) {
     case FRAYEDBIN_ENDPOINT_DISCOVERY: print_discovery(record.number); break;
@@ -248,15 +243,49 @@ static void print_stream(const uint32_t *words, size_t length) {
         } else if (at.found == FRAYEDBIN_FOUND_OTHER) {
             printf("type %u, %zu words\n", (unsigned)at.ump_type, at.size);
         } else {
-            printf("refused, number %u, packet %zu\n", (unsigned)at.refusal, at.place);
+            frayedbin_answer plain = {at.refusal, at.place};
+            print_refusal(stdout, plain);
         }
         position = at.next;
     }
     printf("end at word %zu\n", length);
 }
 
+/* The text of any words, a byte at a time: this call never refuses. */
+static void print_bytes(const uint32_t *words, size_t length) {
+    frayedbin_step_answer step = {0, 0, 0};
+    printf("bytes:");
+    for (;;) {
+        step = frayedbin_next_byte(words, length, step.packet, step.byte_number);
+        if (step.byte == 0) break;
+        printf(" %02X", (unsigned)step.byte);
+    }
+    printf("\n");
+}
+
+/* Calls that are refused, each by the first thing that is wrong. */
+static void print_refused(void) {
+    uint32_t name[FRAYEDBIN_PACKET_WORDS], block[FRAYEDBIN_PACKET_WORDS];
+    must("name", frayedbin_fresh(name, FRAYEDBIN_PACKET_WORDS, FRAYEDBIN_ENDPOINT_NAME));
+    must("block", frayedbin_fresh(block, FRAYEDBIN_PACKET_WORDS, FRAYEDBIN_FUNCTION_BLOCK_INFO));
+    print_refusal(stdout, frayedbin_function_block_info_set_ui_hint(NULL, 0, 4));
+    print_refusal(stdout, frayedbin_function_block_info_set_midi1_port(name, 4, 3));
+    print_refusal(stdout, frayedbin_function_block_info_set_midi1_port(block, 4, 3));
+    frayedbin_record r =
+        record_of("fresh", frayedbin_record_fresh(FRAYEDBIN_FUNCTION_BLOCK_NAME));
+    r.number[FRAYEDBIN_BLOCK_NAME_FUNCTION_BLOCK] = 256;
+    print_refusal(stdout, frayedbin_write(block, 4, r));
+    frayedbin_text_answer none = frayedbin_text(block, 4, NULL, 0);
+    frayedbin_answer plain = {none.refusal, none.place};
+    print_refusal(stdout, plain);
+}
+
 int main(void) {
     static stream question, told, damaged;
+    if (frayedbin_version() != FRAYEDBIN_VERSION) {
+        fprintf(stderr, "the library is not the one that frayedbin.h describes\n");
+        return EXIT_FAILURE;
+    }
     printf("-- the host asks\n");
     ask(&question);
     print_stream(question.words, question.used);
@@ -270,5 +299,9 @@ int main(void) {
     tell_block_name(&damaged, 5, "a name of two packets");
     damaged.words[FRAYEDBIN_PACKET_WORDS] ^= 0x0300;
     print_stream(damaged.words, damaged.used);
+    print_bytes(damaged.words, damaged.used);
+
+    printf("-- refused calls\n");
+    print_refused();
     return EXIT_SUCCESS;
 }
