@@ -33,16 +33,18 @@ pub struct Record {
     numbers: Numbers,
 }
 
-/// A method for each setting.
+/// A method for each setting, with the place of its numbers. A setting that is made changes them
+/// alone, so that they are kept and the library's copy of the record is left.
 macro_rules! settings {
-    ($($(#[$doc:meta])+ $name:ident($type:ty) by $call:ident;)+) => {
+    ($($(#[$doc:meta])+ $at:literal $name:ident($type:ty) by $call:ident;)+) => {
         impl Record {
             $($(#[$doc])+
             #[inline]
-            pub fn $name(self, value: $type) -> Result<Record, Refusal> {
+            pub fn $name(mut self, value: $type) -> Result<Record, Refusal> {
                 let answer = sys::$call(self.numbers, value.crossed());
                 Refusal::check(answer.refusal, answer.place)?;
-                Ok(Record::of(self.kind, &answer.record))
+                value.put(&mut self.numbers.number[$at..]);
+                Ok(self)
             })+
         }
     };
@@ -64,12 +66,6 @@ impl Record {
             number[4] = Direction::default().crossed();
         }
         number
-    }
-
-    /// A record of numbers that came over.
-    #[inline]
-    fn of(kind: Kind, numbers: &Numbers) -> Record {
-        Record::with(kind, numbers.packets, sys::looked_at(&numbers.number))
     }
 
     /// A record of a kind, with the numbers after its last 0.
@@ -120,60 +116,60 @@ impl Record {
 
 settings! {
     /// Sets the major version of UMP, of an endpoint discovery or an endpoint info.
-    set_ump_version_major(u8) by frayedbin_record_set_ump_version_major;
+    0 set_ump_version_major(u8) by frayedbin_record_set_ump_version_major;
     /// Sets the minor version of UMP, of an endpoint discovery or an endpoint info.
-    set_ump_version_minor(u8) by frayedbin_record_set_ump_version_minor;
+    1 set_ump_version_minor(u8) by frayedbin_record_set_ump_version_minor;
     /// Sets whether an endpoint discovery asks for the endpoint info.
-    set_request_endpoint_info(bool) by frayedbin_record_set_request_endpoint_info;
+    2 set_request_endpoint_info(bool) by frayedbin_record_set_request_endpoint_info;
     /// Sets whether an endpoint discovery asks for the device identity.
-    set_request_device_identity(bool) by frayedbin_record_set_request_device_identity;
+    3 set_request_device_identity(bool) by frayedbin_record_set_request_device_identity;
     /// Sets whether an endpoint discovery asks for the endpoint name.
-    set_request_endpoint_name(bool) by frayedbin_record_set_request_endpoint_name;
+    4 set_request_endpoint_name(bool) by frayedbin_record_set_request_endpoint_name;
     /// Sets whether an endpoint discovery asks for the product instance id.
-    set_request_product_instance_id(bool) by frayedbin_record_set_request_product_instance_id;
+    5 set_request_product_instance_id(bool) by frayedbin_record_set_request_product_instance_id;
     /// Sets whether an endpoint discovery asks for the stream configuration.
-    set_request_stream_configuration(bool) by frayedbin_record_set_request_stream_configuration;
+    6 set_request_stream_configuration(bool) by frayedbin_record_set_request_stream_configuration;
     /// Sets whether an endpoint's function blocks never change.
-    set_static_function_blocks(bool) by frayedbin_record_set_static_function_blocks;
+    2 set_static_function_blocks(bool) by frayedbin_record_set_static_function_blocks;
     /// Sets whether an endpoint supports the MIDI 2.0 protocol.
-    set_supports_midi2_protocol(bool) by frayedbin_record_set_supports_midi2_protocol;
+    3 set_supports_midi2_protocol(bool) by frayedbin_record_set_supports_midi2_protocol;
     /// Sets whether an endpoint supports the MIDI 1.0 protocol.
-    set_supports_midi1_protocol(bool) by frayedbin_record_set_supports_midi1_protocol;
+    4 set_supports_midi1_protocol(bool) by frayedbin_record_set_supports_midi1_protocol;
     /// Sets whether an endpoint can receive jitter reduction timestamps.
-    set_supports_receiving_jr_timestamps(bool)
+    5 set_supports_receiving_jr_timestamps(bool)
         by frayedbin_record_set_supports_receiving_jr_timestamps;
     /// Sets whether an endpoint can send jitter reduction timestamps.
-    set_supports_sending_jr_timestamps(bool) by frayedbin_record_set_supports_sending_jr_timestamps;
+    6 set_supports_sending_jr_timestamps(bool) by frayedbin_record_set_supports_sending_jr_timestamps;
     /// Sets an endpoint's number of function blocks, at most 127.
-    set_number_of_function_blocks(u8) by frayedbin_record_set_number_of_function_blocks;
+    7 set_number_of_function_blocks(u8) by frayedbin_record_set_number_of_function_blocks;
     /// Sets a device's manufacturer, three numbers of at most 127.
-    set_device_manufacturer([u8; 3]) by frayedbin_record_set_device_manufacturer;
+    0 set_device_manufacturer([u8; 3]) by frayedbin_record_set_device_manufacturer;
     /// Sets a device's family, at most 16,383.
-    set_device_family(u16) by frayedbin_record_set_device_family;
+    3 set_device_family(u16) by frayedbin_record_set_device_family;
     /// Sets a device's model within the family, at most 16,383.
-    set_device_family_model_number(u16) by frayedbin_record_set_device_family_model_number;
+    4 set_device_family_model_number(u16) by frayedbin_record_set_device_family_model_number;
     /// Sets a device's software version, four numbers of at most 127.
-    set_software_version([u8; 4]) by frayedbin_record_set_software_version;
+    5 set_software_version([u8; 4]) by frayedbin_record_set_software_version;
     /// Sets whether a function block is active.
-    set_active(bool) by frayedbin_record_set_active;
+    0 set_active(bool) by frayedbin_record_set_active;
     /// Sets the number of the block that a function block info is about, at most 127.
-    set_function_block_number(u8) by frayedbin_record_set_function_block_number;
+    1 set_function_block_number(u8) by frayedbin_record_set_function_block_number;
     /// Sets what users may take a function block for.
-    set_ui_hint(UiHint) by frayedbin_record_set_ui_hint;
+    2 set_ui_hint(UiHint) by frayedbin_record_set_ui_hint;
     /// Sets whether a function block is a MIDI 1.0 port.
-    set_midi1_port(Option<Midi1Port>) by frayedbin_record_set_midi1_port;
+    3 set_midi1_port(Option<Midi1Port>) by frayedbin_record_set_midi1_port;
     /// Sets where a function block's messages go.
-    set_direction(Direction) by frayedbin_record_set_direction;
+    4 set_direction(Direction) by frayedbin_record_set_direction;
     /// Sets a function block's first group, at most 15.
-    set_first_group(u8) by frayedbin_record_set_first_group;
+    5 set_first_group(u8) by frayedbin_record_set_first_group;
     /// Sets how many groups a function block spans.
-    set_number_of_groups_spanned(u8) by frayedbin_record_set_number_of_groups_spanned;
+    6 set_number_of_groups_spanned(u8) by frayedbin_record_set_number_of_groups_spanned;
     /// Sets a function block's MIDI-CI version.
-    set_midi_ci_version(u8) by frayedbin_record_set_midi_ci_version;
+    7 set_midi_ci_version(u8) by frayedbin_record_set_midi_ci_version;
     /// Sets the most MIDI-CI streams that a function block has at a time.
-    set_max_number_of_midi_ci_streams(u8) by frayedbin_record_set_max_number_of_midi_ci_streams;
+    8 set_max_number_of_midi_ci_streams(u8) by frayedbin_record_set_max_number_of_midi_ci_streams;
     /// Sets the number of the block that a function block name is about.
-    set_function_block(u8) by frayedbin_record_set_function_block;
+    0 set_function_block(u8) by frayedbin_record_set_function_block;
 }
 
 #[cfg(test)]
@@ -186,7 +182,7 @@ mod tests {
         for kind in (0..=0x3FF).filter_map(|status| Kind::try_from(status).ok()) {
             let answer = sys::record_fresh(kind.status().into());
             assert_eq!(answer.refusal, 0);
-            assert_eq!(Record::of(kind, &answer.record), Record::new(kind));
+            assert_eq!(Record::new(kind).numbers, answer.record);
         }
         assert_eq!(sys::record_fresh(0x3FF).refusal, 5);
     }

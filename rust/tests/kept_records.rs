@@ -1,8 +1,10 @@
-//! The record that a message keeps is the one that is read from its words, after every setting.
+//! The record that a message keeps is the one that is read from its words, after every setting, and
+//! the same settings on a record alone give it too.
 
 use frayedbin::{
     Buffer, DeviceIdentity, Direction, EndpointDiscovery, EndpointInfo, EndpointName, Error,
-    FunctionBlockInfo, FunctionBlockName, Midi1Port, ProductInstanceId, UiHint, UmpStream,
+    FunctionBlockInfo, FunctionBlockName, Kind, Midi1Port, ProductInstanceId, Record, UiHint,
+    UmpStream,
 };
 
 /// Numbers that look random, the same in every run.
@@ -83,90 +85,119 @@ fn some(refused: usize) {
     assert!((100..SETTINGS / 2).contains(&refused), "{refused} refused");
 }
 
+/// Makes a setting on a message and on a record.
+macro_rules! set {
+    ($both:ident.$name:ident($value:expr)) => {{
+        let value = $value;
+        let answer = $both.0.$name(value);
+        match $both.1.$name(value) {
+            Ok(record) => $both.1 = record,
+            Err(refusal) => assert_eq!(answer, Err(refusal)),
+        }
+        answer?
+    }};
+}
+
+/// The message, and that the record beside it is its own.
+fn with_record<B: AsRef<[u32]>>(message: impl Into<UmpStream<B>>, record: Record) -> UmpStream<B> {
+    let message = message.into();
+    assert_eq!(message.record(), record);
+    message
+}
+
 #[test]
 fn endpoint_discovery() {
-    let set: Setting<EndpointDiscovery<[u32; 4]>> = |m, dice| {
+    let set: Setting<(EndpointDiscovery<[u32; 4]>, Record)> = |m, dice| {
         match dice.below(7) {
-            0 => m.set_ump_version_major(dice.octet())?,
-            1 => m.set_ump_version_minor(dice.octet())?,
-            2 => m.set_request_endpoint_info(dice.flag())?,
-            3 => m.set_request_device_identity(dice.flag())?,
-            4 => m.set_request_endpoint_name(dice.flag())?,
-            5 => m.set_request_product_instance_id(dice.flag())?,
-            _ => m.set_request_stream_configuration(dice.flag())?,
+            0 => set!(m.set_ump_version_major(dice.octet())),
+            1 => set!(m.set_ump_version_minor(dice.octet())),
+            2 => set!(m.set_request_endpoint_info(dice.flag())),
+            3 => set!(m.set_request_device_identity(dice.flag())),
+            4 => set!(m.set_request_endpoint_name(dice.flag())),
+            5 => set!(m.set_request_product_instance_id(dice.flag())),
+            _ => set!(m.set_request_stream_configuration(dice.flag())),
         }
         Ok(())
     };
     let message = EndpointDiscovery::new([0; 4]).unwrap();
-    assert_eq!(hold(message, set, |m| (*m).into(), 1), 0);
+    let both = (message, Record::new(Kind::EndpointDiscovery));
+    assert_eq!(hold(both, set, |m| with_record(m.0, m.1), 1), 0);
 }
 
 #[test]
 fn endpoint_info() {
-    let set: Setting<EndpointInfo<[u32; 4]>> = |m, dice| {
+    let set: Setting<(EndpointInfo<[u32; 4]>, Record)> = |m, dice| {
         match dice.below(8) {
-            0 => m.set_ump_version_major(dice.octet())?,
-            1 => m.set_ump_version_minor(dice.octet())?,
-            2 => m.set_static_function_blocks(dice.flag())?,
-            3 => m.set_supports_midi2_protocol(dice.flag())?,
-            4 => m.set_supports_midi1_protocol(dice.flag())?,
-            5 => m.set_supports_receiving_jr_timestamps(dice.flag())?,
-            6 => m.set_supports_sending_jr_timestamps(dice.flag())?,
-            _ => m.set_number_of_function_blocks(dice.octet())?,
+            0 => set!(m.set_ump_version_major(dice.octet())),
+            1 => set!(m.set_ump_version_minor(dice.octet())),
+            2 => set!(m.set_static_function_blocks(dice.flag())),
+            3 => set!(m.set_supports_midi2_protocol(dice.flag())),
+            4 => set!(m.set_supports_midi1_protocol(dice.flag())),
+            5 => set!(m.set_supports_receiving_jr_timestamps(dice.flag())),
+            6 => set!(m.set_supports_sending_jr_timestamps(dice.flag())),
+            _ => set!(m.set_number_of_function_blocks(dice.octet())),
         }
         Ok(())
     };
     let message = EndpointInfo::new([0; 4]).unwrap();
-    some(hold(message, set, |m| (*m).into(), 2));
+    let both = (message, Record::new(Kind::EndpointInfo));
+    some(hold(both, set, |m| with_record(m.0, m.1), 2));
 }
 
 #[test]
 fn device_identity() {
-    let set: Setting<DeviceIdentity<[u32; 4]>> = |m, dice| {
+    let set: Setting<(DeviceIdentity<[u32; 4]>, Record)> = |m, dice| {
         match dice.below(4) {
-            0 => m.set_device_manufacturer(dice.septets())?,
-            1 => m.set_device_family(dice.below(20_000) as u16)?,
-            2 => m.set_device_family_model_number(dice.below(20_000) as u16)?,
-            _ => m.set_software_version(dice.septets())?,
+            0 => set!(m.set_device_manufacturer(dice.septets())),
+            1 => set!(m.set_device_family(dice.below(20_000) as u16)),
+            2 => set!(m.set_device_family_model_number(dice.below(20_000) as u16)),
+            _ => set!(m.set_software_version(dice.septets())),
         }
         Ok(())
     };
     let message = DeviceIdentity::new([0; 4]).unwrap();
-    some(hold(message, set, |m| (*m).into(), 3));
+    let both = (message, Record::new(Kind::DeviceIdentity));
+    some(hold(both, set, |m| with_record(m.0, m.1), 3));
 }
 
-/// Any of three.
-fn any_direction(dice: &mut Dice) -> Direction {
-    [
-        Direction::Input,
-        Direction::Output,
-        Direction::Bidirectional,
-    ][dice.below(3)]
-}
+const DIRECTIONS: [Direction; 3] = [
+    Direction::Input,
+    Direction::Output,
+    Direction::Bidirectional,
+];
+
+const PORTS: [Option<Midi1Port>; 3] = [
+    None,
+    Some(Midi1Port::DontRestrictBandwidth),
+    Some(Midi1Port::RestrictBandwidth),
+];
+
+const HINTS: [UiHint; 4] = [
+    UiHint::Undeclared,
+    UiHint::Receiver,
+    UiHint::Sender,
+    UiHint::SenderReceiver,
+];
 
 #[test]
 fn function_block_info() {
-    let set: Setting<FunctionBlockInfo<[u32; 4]>> = |m, dice| {
-        let hints = [UiHint::Undeclared, UiHint::Receiver, UiHint::Sender];
-        let port = [
-            Midi1Port::RestrictBandwidth,
-            Midi1Port::DontRestrictBandwidth,
-        ];
+    let set: Setting<(FunctionBlockInfo<[u32; 4]>, Record)> = |m, dice| {
         match dice.below(9) {
-            0 => m.set_active(dice.flag())?,
-            1 => m.set_function_block_number(dice.octet())?,
-            2 => m.set_ui_hint(*hints.get(dice.below(4)).unwrap_or(&UiHint::SenderReceiver))?,
-            3 => m.set_midi1_port(port.get(dice.below(3)).copied())?,
-            4 => m.set_direction(any_direction(dice))?,
-            5 => m.set_first_group(dice.below(18) as u8)?,
-            6 => m.set_number_of_groups_spanned(dice.octet())?,
-            7 => m.set_midi_ci_version(dice.octet())?,
-            _ => m.set_max_number_of_midi_ci_streams(dice.octet())?,
+            0 => set!(m.set_active(dice.flag())),
+            1 => set!(m.set_function_block_number(dice.octet())),
+            2 => set!(m.set_ui_hint(HINTS[dice.below(4)])),
+            3 => set!(m.set_midi1_port(PORTS[dice.below(3)])),
+            4 => set!(m.set_direction(DIRECTIONS[dice.below(3)])),
+            5 => set!(m.set_first_group(dice.below(18) as u8)),
+            6 => set!(m.set_number_of_groups_spanned(dice.octet())),
+            7 => set!(m.set_midi_ci_version(dice.octet())),
+            _ => set!(m.set_max_number_of_midi_ci_streams(dice.octet())),
         }
         Ok(())
     };
     let message = FunctionBlockInfo::new([0; 4]).unwrap();
-    some(hold(message, set, |m| (*m).into(), 4));
+    let both = (message, Record::new(Kind::FunctionBlockInfo));
+    some(hold(both, set, |m| with_record(m.0, m.1), 4));
 }
 
 fn hold_endpoint_name<B: Buffer + Clone>(buffer: B, seed: u64) {
