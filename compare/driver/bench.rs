@@ -257,7 +257,9 @@ fn print_crate_table(cases: &[Case], costs: &[Vec<f64>], idle: f64, unit: &str) 
     for (case, costs) in cases.iter().zip(costs) {
         if let [c, rust, own] = costs[..] {
             let (c, rust, own) = (c - idle, rust - idle, own - idle);
-            let ratios = (ratio(own, c, Some(crate_cases::MOST_TO_C)), ratio(own, rust, case.wanted));
+            // A row is held to the C call or, where that makes no String, to the Rust.
+            let most_to_c = if case.wanted.is_none() { Some(crate_cases::MOST_TO_C) } else { None };
+            let ratios = (ratio(own, c, most_to_c), ratio(own, rust, case.wanted));
             print!("| {} | {:.*} | {:.*} | {:.*} |", case.name, places, own, places, c, places, rust);
             println!(" {} | {} |", ratios.0, ratios.1);
         }
