@@ -2,7 +2,7 @@
 //!
 //! Every call takes any slice and any numbers, ends with an answer, keeps no pointer and writes
 //! only to the slice that it is lent to write to. An empty Rust slice has a pointer that is
-//! aligned and not null, which is all that the library asks of one. What an answer's numbers mean
+//! aligned and not null, which is more than the library asks of one. What an answer's numbers mean
 //! is said in refusal.rs.
 
 #![allow(unsafe_code)]
