@@ -3,7 +3,7 @@ use Rattle.utf8.proofs.Told.{told-utf8}
 use Rattle.text.proofs.Told.{told-text-packets}
 use Rattle.kinds.proofs.Told.{told-table, told-largest, told-choices, told-text-kinds, told-refusal-numbers}
 use Rattle.records.proofs.Told.{told-records, told-names, told-chains, told-settings as told-record-settings, told-limits as told-record-limits, told-largest as told-record-largest}
-use Rattle.numbers.proofs.Told.{told-numbers}
+use Rattle.numbers.proofs.Told.{told-numbers, told-from}
 use Rattle.standard.proofs.ToldReading.{told-reading}
 use Rattle.standard.proofs.ToldWalk.{told-walk}
 use Rattle.standard.proofs.ToldPacket.{told-packet, told-place}
@@ -20,6 +20,7 @@ told =
       records = told-records;
       names = told-names;
       numbers = told-numbers;
+      from-numbers = told-from;
       text-packets = told-text-packets;
       utf8 = told-utf8;
       text = told-reading .text;

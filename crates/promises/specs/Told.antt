@@ -1,9 +1,9 @@
--- EACH RULE OF DOCUMENT 01, TOLD BY EXAMPLES in literal words and numbers: a part for each section, from the crate of the definitions that it tells of. The listing's part stands in listing.
+-- EACH RULE OF DOCUMENT 01, TOLD BY EXAMPLES in literal words and numbers: a part for each section, from the crate of the definitions that it tells of. The parts of the listing, of whole texts, of sentences and of the calls from C stand in their crates.
 use Rattle.utf8.specs.Told.{ToldUtf8}
 use Rattle.text.specs.Told.{ToldTextPackets}
 use Rattle.kinds.specs.Told.{ToldTable, ToldLargest, ToldChoices, ToldTextKinds, ToldRefusalNumbers}
 use Rattle.records.specs.Told.{ToldRecords, ToldNames, ToldChains, ToldSettings as ToldRecordSettings, ToldLimits as ToldRecordLimits, ToldLargest as ToldRecordLargest}
-use Rattle.numbers.specs.Told.{ToldNumbers}
+use Rattle.numbers.specs.Told.{ToldNumbers, ToldFrom}
 use Rattle.standard.specs.ToldReading.{ToldKinds, ToldText, ToldRefusals, ToldOrder}
 use Rattle.standard.specs.ToldWalk.{ToldSizes, ToldMessages, ToldFraming}
 use Rattle.standard.specs.ToldPacket.{ToldPacket, ToldPlace}
@@ -18,6 +18,7 @@ pub record Told : Type 0 where
   pub records : ToldRecords
   pub names : ToldNames
   pub numbers : ToldNumbers
+  pub from-numbers : ToldFrom
   -- Text: in packets, its bytes one at a time, UTF-8
   pub text-packets : ToldTextPackets
   pub utf8 : ToldUtf8
