@@ -1,5 +1,4 @@
 -- The numbers of a fresh record, kind by kind. Computed.
-use Prim.Native.Nat.{ℕ}
 use mathlib.Core.Path.{_≡_, refl}
 use types.Run.{OneOf, miss}
 use denote.Enum.Declared.{tagOf}

@@ -16,9 +16,8 @@ use Rattle.records.specs.declared.answers.Read.{Read}
 use Rattle.records.specs.declared.answers.Read.the-variants as R
 use Rattle.records.specs.Records.{kindIn}
 use Rattle.standard.specs.Reading.{readOf}
-use Rattle.text_copy.specs.Copied.{CopyOutcome, copyKind, copyRead, copyOn}
+use Rattle.text_copy.specs.Copied.{copyKind, copyRead, copyOn}
 use Rattle.c_structs.specs.declared.answers.RecordAnswer.{RecordAnswer}
-use Rattle.c_structs.specs.declared.answers.TextAnswer.{TextAnswer}
 use Rattle.c_structs.specs.Crossed.{readCrossed, copyCrossed}
 
 -- no refusal has number 0, which says that nothing was refused

@@ -2,7 +2,7 @@
 use Prim.Native.Nat.{ℕ, suc, _/_, _≤_}
 use mathlib.Core.Path.{_≡_, refl, sym}
 use mathlib.Core.Bool.{false}
-use mathlib.Core.List.{List, [], _∷_, _++_, append-nil}
+use mathlib.Core.List.{List, [], _++_, append-nil}
 use lib.ListN.{length, take}
 use Rattle.laws.specs.Lists.{each}
 use Rattle.laws.proofs.Pick.{true-false}

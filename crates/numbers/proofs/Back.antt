@@ -1,7 +1,7 @@
 -- A RECORD COMES BACK FROM ITS NUMBERS, and accepted numbers are those of the record that they make. Closed by computing the table at each kind, and the laws of the codes.
 use Prim.Native.Nat.{ℕ, _≤_}
 use mathlib.Core.Path.{_≡_, refl, sym, ap, _∙_}
-use mathlib.Core.Bool.{Bool, true, false}
+use mathlib.Core.Bool.{true, false}
 use mathlib.Core.Logic.{_≢_}
 use mathlib.Core.List.{List, [], _∷_}
 use native.Mathlib.Omega.{arith}

@@ -3,24 +3,20 @@ use Prim.Native.Nat.{ℕ, _^_}
 use mathlib.Core.Path.{_≡_, refl, sym, ap, subst, _∙_}
 use mathlib.Core.Bool.{Bool, true, false, not}
 use mathlib.Core.List.{List, [], _∷_}
-use lib.ListN.{length, getD}
-use lib.Dec.{ltb, eqb}
-use borrow.Author.Tests.{eq-eqb, ne-eqb}
+use lib.ListN.{length}
+use lib.Dec.{ltb}
 use types.Run.{OneOf, miss}
 use denote.Enum.Declared.{tagOf}
 use Rattle.laws.specs.Pick.{both}
 use Rattle.laws.specs.Lists.{each}
-use Rattle.laws.proofs.Pick.{both-alone, split}
+use Rattle.laws.proofs.Pick.{both-alone}
 use Rattle.slots.specs.Slots.{fits, those}
 use Rattle.kinds.specs.declared.kind.Kind.{Kind}
 use Rattle.kinds.specs.declared.kind.Kind.the-variants as K
-use Rattle.kinds.specs.declared.kind.Known.{Known}
 use Rattle.kinds.specs.declared.refusal.Refusal.the-variants.{NumberTooLarge, NoSuchField}
-use Rattle.kinds.specs.Choices.{noPort, noDirection}
 use Rattle.kinds.specs.Fields.{Field, Setting, fieldIn, valueIn, same, decided, start, partOf, bit}
-use Rattle.kinds.specs.Layout.{layout, kindOf, none, slotsOf, parts}
+use Rattle.kinds.specs.Layout.{layout, none, slotsOf}
 use Rattle.kinds.proofs.kind.Kind.{the-type}
-use Rattle.kinds.proofs.Rows.{status-kind}
 use Rattle.kinds.proofs.Codes.{bit-flag}
 use Rattle.kinds.proofs.Homes.{elsewhere}
 use Rattle.table.specs.declared.names.FlagName.{FlagName}
@@ -33,11 +29,9 @@ use Rattle.records.specs.declared.message.Message.{Message}
 use Rattle.records.specs.declared.answers.Answer.the-variants as A
 use Rattle.records.specs.Records.{kindIn, packetsIn, recordOf, fieldsIn, lookup, valuesOf, firstPart}
 use Rattle.records.specs.Settings.{with, tooLarge, edited, setRecord}
-use Rattle.records.proofs.Records.{record-back, record-kind}
+use Rattle.records.proofs.Records.{record-back}
 use Rattle.records.proofs.Settings.{lacking, too-large, made}
 use Rattle.numbers.specs.declared.Numbers.{Numbers}
-use Rattle.numbers.specs.declared.to_record.FromNumbers.{FromNumbers}
-use Rattle.numbers.specs.declared.to_record.FromNumbers.the-variants as G
 use Rattle.numbers.specs.Numbers.{asNumbers}
 use Rattle.numbers.specs.FromNumbers.{choicesNamed, trimmed}
 use Rattle.numbers.specs.SetOne.{withNumber}

@@ -1,5 +1,5 @@
 -- `calls::frayedbin_text` meets its contract, by the laws of `Texts`.
-use mathlib.Core.Path.{_≡_, sym, ap, _∙_}
+use mathlib.Core.Path.{sym, ap, _∙_}
 use Rattle.text_copy.specs.Copied.{CopyOutcome}
 use Rattle.c_structs.specs.Crossed.{copyCrossed}
 use Rattle.frayedbin.proofs.Texts.{text-refused, text-copied, text-known}

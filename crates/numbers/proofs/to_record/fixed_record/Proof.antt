@@ -1,6 +1,5 @@
 -- `to_record::fixed_record` meets its contract, by the row.
-use mathlib.Core.Path.{refl, sym, ap, _∙_}
-use lib.Dec.{ltb}
+use mathlib.Core.Path.{refl, sym, _∙_}
 use borrow.Author.Tests.{lt-ltb, le-ltb}
 use Rattle.laws.proofs.Pick.{here, past}
 use Rattle.numbers.proofs.Accepted.{text-row}
