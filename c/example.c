@@ -263,6 +263,14 @@ static void print_bytes(const uint32_t *words, size_t length) {
     printf("\n");
 }
 
+/* The words of a packet of each type; 16 is no type. */
+static void print_sizes(void) {
+    for (uint32_t type = 0; type <= 16; type++) {
+        printf(" %zu", frayedbin_words_of_type(type));
+    }
+    printf("\n");
+}
+
 /* Calls that are refused, each by the first thing that is wrong. */
 static void print_refused(void) {
     uint32_t name[FRAYEDBIN_PACKET_WORDS], block[FRAYEDBIN_PACKET_WORDS];
@@ -303,5 +311,8 @@ int main(void) {
 
     printf("-- refused calls\n");
     print_refused();
+
+    printf("-- words of a packet of each type, 0 to 15\n");
+    print_sizes();
     return EXIT_SUCCESS;
 }

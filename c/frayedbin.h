@@ -30,7 +30,7 @@ extern "C" {
 #endif
 
 /* The version that this header describes: major, minor and patch, one byte each. */
-#define FRAYEDBIN_VERSION 0x000200u
+#define FRAYEDBIN_VERSION 0x000300u
 
 /* The version of the library that is linked. */
 uint32_t frayedbin_version(void);
@@ -249,6 +249,11 @@ frayedbin_record_answer frayedbin_read(const uint32_t *words, size_t length);
  * is final: appended words do not change it. The words before the position may be dropped, and the
  * position is then 0. */
 frayedbin_walk_answer frayedbin_walk(const uint32_t *words, size_t length, size_t position);
+
+/* Gives how many words a packet of a type has, and so a message of any type but F, which may have
+ * several packets. The type is the highest four bits of its first word: word >> 28. By type, 0 to
+ * 15: 1 1 1 2, 2 4 1 1, 2 2 2 3, 3 4 4 4. Any other number is no type and gives 0. */
+size_t frayedbin_words_of_type(uint32_t ump_type);
 
 /* Gives the first four words, missing ones zero, and their format; refuses no words (1) and
  * another type (4). */

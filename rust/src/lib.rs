@@ -99,7 +99,7 @@ pub use packet::{message_size, packet, Format, Packet, Packets};
 pub use product_instance_id::ProductInstanceId;
 pub use record::Record;
 pub use refusal::Refusal;
-pub use stream::{Found, Messages, UmpStream};
+pub use stream::{words_of_type, Found, Messages, UmpStream};
 pub use text::TextBytesIterator;
 
 /// The names that midi2's module `ump_stream` has too, so that its imports need one word changed.

@@ -139,6 +139,29 @@ impl<A: AsRef<[u32]>, B: AsRef<[u32]>> PartialEq<UmpStream<B>> for UmpStream<A> 
 
 impl<B: AsRef<[u32]>> Eq for UmpStream<B> {}
 
+/// How many words a packet of a type has, and so a message of any type but F, which may have
+/// several packets. The type is the highest four bits of its first word; a number above 15 is no
+/// type.
+///
+/// ```
+/// use frayedbin::words_of_type;
+///
+/// let note_on = 0x4090_3C00_u32;
+/// assert_eq!(words_of_type((note_on >> 28) as u8), Some(2));
+/// assert_eq!(words_of_type(16), None);
+///
+/// let sizes: Vec<usize> = (0..16).filter_map(words_of_type).collect();
+/// assert_eq!(sizes, [1, 1, 1, 2, 2, 4, 1, 1, 2, 2, 2, 3, 3, 4, 4, 4]);
+/// ```
+#[inline]
+#[must_use]
+pub fn words_of_type(ump_type: u8) -> Option<usize> {
+    match sys::words_of_type(u32::from(ump_type)) {
+        0 => None,
+        words => Some(words),
+    }
+}
+
 /// What stands at a word position of a stream.
 #[derive(Clone, Copy, Debug, PartialEq, Eq)]
 pub enum Found<'a> {

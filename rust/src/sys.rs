@@ -78,6 +78,7 @@ pub struct StepAnswer {
 extern "C" {
     fn frayedbin_read(words: *const u32, length: usize) -> RecordAnswer;
     fn frayedbin_walk(words: *const u32, length: usize, position: usize) -> WalkAnswer;
+    fn frayedbin_words_of_type(ump_type: u32) -> usize;
     fn frayedbin_packet(words: *const u32, length: usize) -> PacketAnswer;
     fn frayedbin_message_size(words: *const u32, length: usize) -> SizeAnswer;
     fn frayedbin_text(words: *const u32, length: usize, out: *mut u8, room: usize) -> TextAnswer;
@@ -104,6 +105,12 @@ pub fn read(words: &[u32]) -> RecordAnswer {
 pub fn walk(words: &[u32], position: usize) -> WalkAnswer {
     // SAFETY: a slice's pointer and length, lent for the call.
     unsafe { frayedbin_walk(words.as_ptr(), words.len(), position) }
+}
+
+#[inline]
+pub fn words_of_type(ump_type: u32) -> usize {
+    // SAFETY: numbers alone cross.
+    unsafe { frayedbin_words_of_type(ump_type) }
 }
 
 #[inline]
@@ -400,7 +407,7 @@ mod tests {
             fn frayedbin_version() -> u32;
         }
         // SAFETY: a number alone crosses.
-        assert_eq!(unsafe { frayedbin_version() }, 0x00_02_00);
+        assert_eq!(unsafe { frayedbin_version() }, 0x00_03_00);
     }
 
     /// The sizes that a C compiler for x86-64 gives the structs of c/frayedbin.h.

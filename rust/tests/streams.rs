@@ -1,6 +1,6 @@
 //! Walking a stream, and the listing of a capture.
 
-use frayedbin::{list, Found, Messages, Refusal, TextBytesIterator, UmpStream};
+use frayedbin::{list, words_of_type, Found, Messages, Refusal, TextBytesIterator, UmpStream};
 
 /// The words of the scope paper's sample listing.
 const SAMPLE: [u32; 13] = [
@@ -164,12 +164,26 @@ fn sixty_four_packets_and_no_end() {
     assert!(matches!(found, Found::Message(UmpStream::EndpointName(_))));
 }
 
-/// Each type takes its words.
+/// The words of a packet of each type, in type order.
+const SIZES: [usize; 16] = [1, 1, 1, 2, 2, 4, 1, 1, 2, 2, 2, 3, 3, 4, 4, 4];
+
+/// Each type has its size, and no number above 15 has one.
+#[test]
+fn words_of_every_type() {
+    for ump_type in 0..=u8::MAX {
+        let size = SIZES.get(usize::from(ump_type)).copied();
+        assert_eq!(words_of_type(ump_type), size);
+    }
+}
+
+/// A walk passes the words of each other type, and waits where the last one is missing.
 #[test]
 fn sizes_of_other_types() {
-    let sizes = [1, 1, 1, 2, 2, 4, 1, 1, 2, 2, 2, 3, 3, 4, 4];
-    for (ump_type, size) in (0..).zip(sizes) {
+    for (ump_type, size) in (0..15).zip(SIZES) {
         let words = [u32::from(ump_type) << 28; 4];
+        let cut = Messages::new(&words[..size - 1]).next();
+        let short = refused(0, Refusal::TooFewWords, &words[..size - 1]);
+        assert_eq!(cut, (size > 1).then_some(short));
         let first = Messages::new(&words).next();
         assert_eq!(
             first,

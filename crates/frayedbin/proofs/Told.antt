@@ -15,7 +15,7 @@ use Rattle.numbers.specs.FromNumbers.{spread, fromKind}
 use Rattle.standard.specs.Reading.{ruled, otherField, readBody, readKind, readOf}
 use Rattle.standard.specs.Walk.{sizeOf, stepOf, framePacket, frameFrom, frameOf, framedOf, otherOf, walkOf}
 use Rattle.standard.specs.Words.{fresh, freshOn, putWord, encodeIn, encode, answerTo, actIn, setMessage, setOn, writeOn}
-use Rattle.frayedbin.specs.Told.{ToldCodes, ToldRecords}
+use Rattle.frayedbin.specs.Told.{ToldCodes, ToldRecords, ToldTypes}
 
 -- to unfold this is to unfold all that computes a call
 unfoldable facts : Unit {0}
@@ -29,3 +29,7 @@ told-codes = search
 pub told-records : ToldRecords
 unfolding facts
 told-records = search
+
+pub told-types : ToldTypes
+unfolding map
+told-types = search

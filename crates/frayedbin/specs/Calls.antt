@@ -1,7 +1,7 @@
 -- Calls with a code or a record from C, which may name no choice or be no record.
 use Prim.Native.Nat.{ℕ, _^_}
 use mathlib.Core.List.{List}
-use lib.ListN.{length}
+use lib.ListN.{length, getD}
 use lib.Dec.{ltb}
 use Rattle.laws.specs.Pick.{pick}
 use Rattle.counts.specs.Counts.{packet, byte}
@@ -15,6 +15,7 @@ use Rattle.kinds.specs.Layout.{layout, kindOf}
 use Rattle.table.specs.Places.{slotAt}
 use Rattle.records.specs.Records.{recordOf}
 use Rattle.records.specs.Settings.{lacks, setRecord}
+use Rattle.standard.specs.Walk.{sizes}
 use Rattle.standard.specs.Words.{Outcome, unchanged, setOn, writeOn}
 use Rattle.numbers.specs.declared.Numbers.{Numbers}
 use Rattle.c_structs.specs.declared.answers.RecordAnswer.{RecordAnswer}
@@ -31,6 +32,10 @@ use Rattle.numbers.specs.Numbers.{asNumbers, noNumbers}
 use Rattle.numbers.specs.FromNumbers.{fromKind, fromOwn, fromFixed}
 use Rattle.numbers.specs.SetOne.{withNumber}
 use Rattle.c_structs.specs.Codes.{hintFromCode, portFromCode, directionFromCode}
+
+-- the words of a packet of type t; 0 for a number above 15, which is no type
+abbrev pub wordsOfType : ℕ → ℕ
+wordsOfType t = getD sizes t 0
 
 -- a text place from its two numbers
 abbrev pub placeAt : ℕ → ℕ → TextPlace

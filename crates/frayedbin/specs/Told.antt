@@ -3,6 +3,7 @@ use Prim.Native.Nat.{ℕ}
 use mathlib.Core.Path.{_≡_}
 use mathlib.Core.Bool.{true}
 use mathlib.Core.List.{List, [], _∷_}
+use Rattle.laws.specs.Lists.{map}
 use Rattle.kinds.specs.Fields.{Flag, Setting}
 use Rattle.records.specs.Answers.{Said, accepted, saidAnswer}
 use Rattle.records.specs.Told.{refusal}
@@ -10,7 +11,7 @@ use Rattle.standard.specs.Words.{Outcome}
 use Rattle.numbers.specs.declared.Numbers.{Numbers}
 use Rattle.numbers.specs.Numbers.{numbered}
 use Rattle.c_structs.specs.Crossed.{withNumbers, saidWith}
-use Rattle.frayedbin.specs.Calls.{hintOn, portOn, directionOn, setIn, hintIn, portIn, directionIn, writeIn, freshIn}
+use Rattle.frayedbin.specs.Calls.{wordsOfType, hintOn, portOn, directionOn, setIn, hintIn, portIn, directionIn, writeIn, freshIn}
 
 -- a call says this and leaves these words; refused, it leaves the words as they were
 abbrev Leaves : Outcome → Said → List ℕ → Type 0
@@ -61,3 +62,9 @@ pub record ToldRecords : Type 0 where
   pub fresh-block : freshIn 0x11 ≡ withNumbers (blockInfo 0 0 0 3)
   pub fresh-name : freshIn 0x03 ≡ withNumbers (numbered 0x03 1 [])
   pub fresh-none : freshIn 0x05 ≡ saidWith (refusal 5 0) (numbered 0 0 [])
+
+pub record ToldTypes : Type 0 where
+  -- each type has its words
+  pub types : map wordsOfType (0x0 ∷ 0x4 ∷ 0x5 ∷ 0x7 ∷ 0x8 ∷ 0xA ∷ 0xB ∷ 0xC ∷ 0xD ∷ 0xF ∷ []) ≡ 1 ∷ 2 ∷ 4 ∷ 1 ∷ 2 ∷ 2 ∷ 3 ∷ 3 ∷ 4 ∷ 4 ∷ []
+  -- a number above 15 has none, and so has a whole word in place of its type
+  pub no-type : map wordsOfType (16 ∷ 0x20000000 ∷ 0xFFFFFFFF ∷ []) ≡ 0 ∷ 0 ∷ 0 ∷ []

@@ -7,9 +7,9 @@ ghost use Rattle.sentences.specs.Sentences.{refusalSentence, statusName};
 // Major, minor and patch, one byte each; it must be the header's FRAYEDBIN_VERSION.
 #[no_mangle]
 pub extern "C" fn frayedbin_version() -> u32
-    ensures { λ r. ⌜ r ≡ 0x000200 ⌝ }
+    ensures { λ r. ⌜ r ≡ 0x000300 ⌝ }
 {
-    0x000200
+    0x000300
 }
 
 #[no_mangle]

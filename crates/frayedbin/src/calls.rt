@@ -1,4 +1,4 @@
-// Reading, walking, packets, text by byte, fresh messages, writing a record, and the listing.
+// Reading, walking, sizes of types, packets, text by byte, fresh messages, writing a record, and the listing.
 ghost use mathlib.Core.Path.{_≡_};
 ghost use Rattle.standard.specs.Packet.{packetOf, messageSize};
 ghost use Rattle.standard.specs.Place.{nextByte};
@@ -8,7 +8,7 @@ ghost use Rattle.standard.specs.Words.{freshOn};
 ghost use Rattle.c_structs.specs.Crossed.{answered, readCrossed, walkCrossed, packetCrossed, sizeCrossed, stepCrossed, copyCrossed};
 ghost use Rattle.text_copy.specs.Copied.{copyOn};
 ghost use Rattle.listing.specs.Listed.{Listed};
-ghost use Rattle.frayedbin.specs.Calls.{placeAt, freshIn, writeIn};
+ghost use Rattle.frayedbin.specs.Calls.{placeAt, wordsOfType, freshIn, writeIn};
 use c_structs::answers::Answered;
 use c_structs::answers::PacketAnswer;
 use c_structs::answers::RecordAnswer;
@@ -55,6 +55,7 @@ use text::TextPlace;
 use text_copy::TextCopy;
 use text_copy::copy_kind;
 use walking::helpers::other_size;
+use walking::size_of;
 
 #[no_mangle]
 pub extern "C" fn frayedbin_read(words: &[u32]) -> RecordAnswer
@@ -103,6 +104,17 @@ pub extern "C" fn frayedbin_walk(words: &[u32], position: usize) -> WalkAnswer
             ),
         },
     }
+}
+
+// A caller who gives a whole word in place of its type gets 0, not four.
+#[no_mangle]
+pub extern "C" fn frayedbin_words_of_type(ump_type: u32) -> usize
+    ensures { λ r. ⌜ r ≡ wordsOfType «ump_type» ⌝ }
+{
+    if ump_type < 16 {
+        return size_of(ump_type).0;
+    }
+    0
 }
 
 #[no_mangle]

@@ -1,18 +1,42 @@
 -- Laws of the lists of specs/Lists.antt, of the rest of a list, and of stores into a list. By induction on the list or on the count.
 use Prim.Native.Nat.{ℕ, zero, suc, _+_, _*_, _<_, _≤_}
 use mathlib.Core.Path.{_≡_, refl, sym, ap, ap₂, _∙_}
-use mathlib.Core.Bool.{Bool, true, false}
+use mathlib.Core.Bool.{Bool, true, false, _&&_}
 use mathlib.Core.List.{List, [], _∷_, _++_}
 use native.Mathlib.Omega.{arith}
 use native.Mathlib.Nat.{zero-add, add-zero}
 use native.Mathlib.Numerals.{add-one}
 use lib.ListN.{length, getD, set, take, drop, drop-of-length-le, length-append}
 use lib.Seq.{ext-getD, drop-cons, sets, set-out, set-comm}
-use lib.Dec.{eqb}
+use lib.Dec.{T, eqb}
 use borrow.Author.Tests.{eq-eqb, ne-eqb}
 use Rattle.laws.specs.Pick.{pick}
 use Rattle.laws.specs.Lists.{tabulate, upTo, nonzero, each}
+use Rattle.laws.proofs.EachBelow.{and-left, and-right}
 use Rattle.laws.proofs.Pick.{never}
+
+-- ---- an entry that is looked up
+-- inside the list the default does not matter, past its end it is the answer
+pub entry-inside : (xs : List ℕ) (k a b : ℕ) → k < length xs → getD xs k a ≡ getD xs k b
+entry-inside [] k a b h = omega arith
+entry-inside (x ∷ xs) zero a b h = refl
+entry-inside (x ∷ xs) (suc k) a b h = entry-inside xs k a b (omega arith)
+
+pub entry-past : (xs : List ℕ) (k d : ℕ) → length xs ≤ k → d ≡ getD xs k d
+entry-past [] k d h = refl
+entry-past (x ∷ xs) zero d h = omega arith
+entry-past (x ∷ xs) (suc k) d h = entry-past xs k d (omega arith)
+
+-- the test holds for every entry
+abbrev pub every : (ℕ → Bool) → List ℕ → Bool
+every f [] = true
+every f (x ∷ xs) = f x && every f xs
+
+-- a test that holds for every entry and for the default holds for what is looked up
+pub every-at : (f : ℕ → Bool) (xs : List ℕ) (d : ℕ) → T (every f xs) → T (f d) → (k : ℕ) → T (f (getD xs k d))
+every-at f [] d t e k = e
+every-at f (x ∷ xs) d t e zero = and-left (f x) (every f xs) t
+every-at f (x ∷ xs) d t e (suc k) = every-at f xs d (and-right (f x) (every f xs) t) e k
 
 -- ---- tabulate
 pub length-tabulate : (n : ℕ) (f : ℕ → ℕ) → length (tabulate n f) ≡ n

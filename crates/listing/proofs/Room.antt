@@ -28,7 +28,7 @@ use Rattle.standard.specs.declared.Framed.the-variants.{Whole, Short, Broken}
 use Rattle.standard.specs.Heads.{typeOf, streamType}
 use Rattle.standard.specs.Reading.{readOf}
 use Rattle.standard.specs.Walk.{sizeOf, part, walkedOf, frameOf, framedOf, otherOf, walkOf, Onward}
-use Rattle.standard.proofs.Next.{Room, frame-room, walk-onward, size-some}
+use Rattle.standard.proofs.Next.{Room, frame-room, walk-onward, size-some, size-most}
 use Rattle.standard.proofs.Near.{Near, read-near, Close, frame-close}
 use Rattle.walking.specs.Visits.{nextOf, visits}
 use Rattle.walking.proofs.Stands.{walk-formed}
@@ -69,16 +69,8 @@ unfolding each
 short-length = simp length-append (omega (arith, decimal-length 0 1 (lit≤ tt), decimal-length 0 0 (lit≤ tt)))
 
 -- a size has one digit
-one-of : (t b x y : ℕ) → length (decimal x) ≤ 1 → length (decimal y) ≤ 1 → length (decimal (pick (ltb t b) x y)) ≤ 1
-one-of t b x y h g = ⊎-elim (λ l. rw (lt-ltb t b l) h) (λ l. rw (le-ltb t b l) g) (below t b)
-
 size-length : (t : ℕ) → length (decimal (sizeOf t)) ≤ 1
-unfolding sizeOf
-size-length t =
-    let d1 = decimal-length 0 1 (lit≤ tt) in
-    let d2 = decimal-length 0 2 (lit≤ tt) in
-    let d4 = decimal-length 0 4 (lit≤ tt) in
-    one-of t 3 1 _ d1 (one-of t 5 2 _ d2 (one-of t 6 4 _ d4 (one-of t 8 1 _ d1 (one-of t 11 2 _ d2 (one-of t 13 3 4 (decimal-length 0 3 (lit≤ tt)) d4)))))
+size-length t = decimal-length 0 (sizeOf t) (omega (arith, size-most t))
 
 -- ---- a line at a position of at most four digits
 line-length : (d said : List ℕ) (k : ℕ) → length d ≤ 4 → length said + 5 ≤ k → length (d ++ said ++ ascii "\n") ≤ k

@@ -4,9 +4,10 @@ use mathlib.Core.Path.{_≡_, refl, sym}
 use mathlib.Core.List.{List}
 use native.Mathlib.Omega.{arith}
 use lib.ListN.{length, getD}
-use lib.Dec.{ltb, leb, lit≤}
+use lib.Dec.{ltb, leb, leb→le}
 use borrow.Author.Tests.{ltb-false, leb-true, le-leb}
 use Rattle.laws.specs.Pick.{differ}
+use Rattle.laws.proofs.Lists.{every-at}
 use Rattle.laws.proofs.Pick.{picked, here}
 use Rattle.counts.specs.declared.PacketNumber.{PacketNumber}
 use Rattle.records.specs.declared.answers.Read.{Read}
@@ -18,7 +19,7 @@ use Rattle.standard.specs.declared.Framed.{Framed}
 use Rattle.standard.specs.declared.Framed.the-variants.{Whole, Short, Broken}
 use Rattle.standard.specs.Heads.{typeOf, formatOf, statusOf, streamType}
 use Rattle.standard.specs.Reading.{readOf}
-use Rattle.standard.specs.Walk.{sizeOf, stepOf, afterStep, framePacket, frameFrom, frameOf, walkedOf, part, framedOf, otherOf, walkOf, Onward}
+use Rattle.standard.specs.Walk.{sizes, sizeOf, stepOf, afterStep, framePacket, frameFrom, frameOf, walkedOf, part, framedOf, otherOf, walkOf, Onward}
 
 -- ---- framing
 -- the packets of a framed message lie within the words; a broken message has at least one whole packet
@@ -55,12 +56,14 @@ pub whole-room : {f : Framed} (ws : List ℕ) (pos : ℕ) {n : PacketNumber} →
 whole-room ws pos e q = rw (← e, q) at (frame-room ws pos)
 
 -- ---- the walk
--- every type has at least one word
+-- a packet of any type has one to four words
 pub size-some : (t : ℕ) → 1 ≤ sizeOf t
 unfolding sizeOf
-size-some t =
-    picked (λ n. 1 ≤ n) (ltb t 3) _ _ (λ q. lit≤ tt) (λ q. picked (λ n. 1 ≤ n) (ltb t 5) _ _ (λ q. lit≤ tt) (λ q. picked (λ n. 1 ≤ n) (ltb t 6) _ _ (λ q. lit≤ tt) (λ q.
-    picked (λ n. 1 ≤ n) (ltb t 8) _ _ (λ q. lit≤ tt) (λ q. picked (λ n. 1 ≤ n) (ltb t 11) _ _ (λ q. lit≤ tt) (λ q. picked (λ n. 1 ≤ n) (ltb t 13) _ _ (λ q. lit≤ tt) (λ q. lit≤ tt))))))
+size-some t = leb→le _ _ (every-at (leb 1) sizes 4 tt tt t)
+
+pub size-most : (t : ℕ) → sizeOf t ≤ 4
+unfolding sizeOf
+size-most t = leb→le _ _ (every-at (λ n. leb n 4) sizes 4 tt tt t)
 
 read-onward : (r : Read) (pos end next : ℕ) → pos < next → next ≤ end → Onward pos end (walkedOf r next)
 read-onward (R.Message m) pos end next a b = (a, b)

@@ -2,11 +2,14 @@
 use Prim.Native.Nat.{ℕ}
 use mathlib.Core.Path.{_≡_}
 use mathlib.Core.List.{List, [], _∷_, _++_}
-use Rattle.laws.specs.Lists.{map}
+use lib.ListN.{length}
+use lib.Dec.{eqb}
+use Rattle.laws.specs.Pick.{pick}
+use Rattle.laws.specs.Lists.{tabulate, map, each}
 use Rattle.records.specs.Answers.{Said, accepted, saidRead, walkedCase, saidWalked}
 use Rattle.records.specs.Told.{refusal}
 use Rattle.standard.specs.Reading.{readOf}
-use Rattle.standard.specs.Walk.{sizeOf, walkOf}
+use Rattle.standard.specs.Walk.{sizes, sizeOf, walkOf}
 use Rattle.standard.specs.ToldReading.{heads, startAnd}
 
 -- at a position of the words the walk says this
@@ -48,8 +51,20 @@ everyType =
 abbrev after : List ℕ → List ℕ
 after ws = 0x10000000 ∷ ws
 
+-- the types that have so many words
+abbrev typesOf : ℕ → List ℕ
+typesOf n = each (λ t. pick (eqb (sizeOf t) n) (t ∷ []) []) (tabulate 16 (λ t. t))
+
 pub record ToldSizes : Type 0 where
   -- sizes: 0, 1, 2, 6, 7: 1; 3, 4, 8, 9, A: 2; B, C: 3; 5, D, E, F: 4
+  pub sixteen : length sizes ≡ 16
+  pub of-one : typesOf 1 ≡ 0x0 ∷ 0x1 ∷ 0x2 ∷ 0x6 ∷ 0x7 ∷ []
+  pub of-two : typesOf 2 ≡ 0x3 ∷ 0x4 ∷ 0x8 ∷ 0x9 ∷ 0xA ∷ []
+  pub of-three : typesOf 3 ≡ 0xB ∷ 0xC ∷ []
+  pub of-four : typesOf 4 ≡ 0x5 ∷ 0xD ∷ 0xE ∷ 0xF ∷ []
+  -- a number above 15 is no type, and is given four
+  pub no-type : sizeOf 16 ≡ 4
+  -- the walk passes so many words of each type
   pub type-0 : Walks everyType 0 (other 0x0 1 1)
   pub type-1 : Walks everyType 1 (other 0x1 1 2)
   pub type-2 : Walks everyType 2 (other 0x2 1 3)
@@ -66,7 +81,6 @@ pub record ToldSizes : Type 0 where
   pub type-D : Walks everyType 25 (other 0xD 4 29)
   pub type-E : Walks everyType 29 (other 0xE 4 33)
   pub type-F : Walks everyType 33 (message 37 (0x04 ∷ 1 ∷ []))
-  pub size-F : sizeOf 0xF ≡ 4
   -- a position at or past the length is the end
   pub at-length : Walks everyType 37 (accepted [])
   pub past-length : Walks everyType 40 (accepted [])

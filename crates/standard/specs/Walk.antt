@@ -1,6 +1,6 @@
 -- THE WALK: what is at a word position of a stream.
 use Prim.Native.Nat.{ℕ, zero, suc, _+_, _-_, _*_, _≤_, _<_}
-use mathlib.Core.List.{List}
+use mathlib.Core.List.{List, [], _∷_}
 use lib.ListN.{length, getD, take, drop}
 use lib.Dec.{ltb, leb, eqb}
 use Rattle.laws.specs.Pick.{pick, differ}
@@ -18,10 +18,14 @@ use Rattle.standard.specs.declared.Framed.the-variants.{Whole, Short, Br
 use Rattle.standard.specs.Heads.{typeOf, formatOf, statusOf, streamType}
 use Rattle.standard.specs.Reading.{readOf}
 
--- the words of each type: 0, 1, 2, 6, 7: 1; 3, 4, 8, 9, A: 2; B, C: 3; 5, D, E, F: 4
+-- ---- sizes
+-- the words of a packet of each type, 0 to F in order, as M2-104-UM lists them
+abbrev pub sizes : List ℕ
+sizes = 1 ∷ 1 ∷ 1 ∷ 2 ∷ 2 ∷ 4 ∷ 1 ∷ 1 ∷ 2 ∷ 2 ∷ 2 ∷ 3 ∷ 3 ∷ 4 ∷ 4 ∷ 4 ∷ []
+
+-- the words of a packet of type t; a number above 15, which is no type, is given four
 unfoldable pub sizeOf : ℕ → ℕ
-sizeOf t =
-    pick (ltb t 3) 1 (pick (ltb t 5) 2 (pick (ltb t 6) 4 (pick (ltb t 8) 1 (pick (ltb t 11) 2 (pick (ltb t 13) 3 4)))))
+sizeOf t = getD sizes t 4
 
 -- ---- the chain rule
 -- the first packet of a message must be Complete or Start, the others Continue or End

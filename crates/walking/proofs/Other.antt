@@ -1,15 +1,13 @@
 -- Another type's message by its size alone: the walk's answer follows from it. Closed by the cases of the walk.
-use Prim.Native.Nat.{ℕ, _+_, _-_, _*_, _/_, _%_, _^_, _≤_, _<_}
-use mathlib.Core.Path.{_≡_, refl, sym, ap, _∙_}
-use mathlib.Core.Bool.{Bool, true, false, not}
+use Prim.Native.Nat.{ℕ, _+_, _-_, _*_, _≤_, _<_}
+use mathlib.Core.Path.{_≡_, refl, sym, _∙_}
 use mathlib.Core.List.{List}
 use native.Mathlib.Omega.{arith}
 use lib.ListN.{length, getD}
-use lib.Dec.{T, ltb, leb, eqb}
+use lib.Dec.{ltb, leb}
 use borrow.Author.Tests.{ltb-false, lt-ltb, le-ltb, lt-leb}
 use Rattle.laws.specs.Pick.{differ}
-use Rattle.laws.proofs.EachBelow.{eachBelow, each-at}
-use Rattle.laws.proofs.Pick.{picked, here, past, eq-differ, ne-differ}
+use Rattle.laws.proofs.Pick.{picked, eq-differ, ne-differ}
 use Rattle.counts.specs.Counts.{word}
 use Rattle.kinds.specs.declared.refusal.Refusal.the-variants.{TooFewWords}
 use Rattle.records.specs.declared.answers.Read.{Read}
@@ -24,34 +22,7 @@ use Rattle.standard.specs.Walk.{sizeOf, frameOf, walkedOf, part, framedOf, othe
 use Rattle.standard.proofs.Next.{walk-end}
 use Rattle.walking.specs.Other.{sizeIn, otherSize}
 
--- ---- a type has one word exactly where its bit is set in 0xC7: computed at each of the sixteen types
-abbrev alike : Bool → Bool → Bool
-alike true b = b
-alike false b = not b
-
-alike-same : (a b : Bool) → T (alike a b) → a ≡ b
-alike-same true true t = refl
-alike-same true false t = absurd t
-alike-same false true t = absurd t
-alike-same false false t = refl
-
-bit-test : ℕ → Bool
-bit-test t = alike (eqb (0xC7 / 2 ^ t % 2) 1) (eqb (sizeOf t) 1)
-
-all-bits : T (eachBelow bit-test 16)
-unfolding bit-test sizeOf
-all-bits = tt
-
-pub one-word-bit : (t : ℕ) → t < 16 → eqb (0xC7 / 2 ^ t % 2) 1 ≡ eqb (sizeOf t) 1
-unfolding bit-test
-one-word-bit t h = alike-same _ _ (each-at bit-test 16 all-bits t h)
-
--- a number above 15 is no type of one word
-pub one-word-not : (t : ℕ) → 16 ≤ t → false ≡ eqb (sizeOf t) 1
-unfolding sizeOf
-one-word-not t h = rw (le-ltb t 3 (omega arith), le-ltb t 5 (omega arith), le-ltb t 6 (omega arith), le-ltb t 8 (omega arith), le-ltb t 11 (omega arith), le-ltb t 13 (omega arith))
-
--- the type of the seven kinds has four
+-- ---- the type of the seven kinds has four words
 not-stream : (t : ℕ) → sizeOf t ≡ 1 → t ≡ streamType → ⊥
 unfolding sizeOf
 not-stream t e q = let z : sizeOf streamType ≡ 1 = rw q at e in omega arith

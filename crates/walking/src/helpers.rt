@@ -1,22 +1,10 @@
 // A helper of the calls from C, not for callers of the library: stepping over another type without an answer of the walk.
 ghost use mathlib.Core.Path.{_≡_};
-ghost use lib.Dec.{eqb};
 ghost use Rattle.counts.specs.Counts.{word};
-ghost use Rattle.standard.specs.Walk.{sizeOf};
 ghost use Rattle.walking.specs.Other.{otherSize};
 use crate::size_of;
 use counts::WordNumber;
 use reading::heads::type_of;
-
-// Whether this type has one word (0, 1, 2, 6 or 7): one bit test for all five.
-fn is_one_word(ump_type: u32) -> bool
-    ensures { λ r. ⌜ r ≡ eqb (sizeOf «ump_type») 1 ⌝ }
-{
-    if ump_type < 16 {
-        return (0b1100_0111u32 >> ump_type) % 2 == 1;
-    }
-    false
-}
 
 // Fast path of stepping over another type: the words of its message if all are there, and 0 for any other answer of the walk.
 pub fn other_size(words: &[u32], position: WordNumber) -> WordNumber
@@ -27,13 +15,14 @@ pub fn other_size(words: &[u32], position: WordNumber) -> WordNumber
         return WordNumber(0);
     }
     let ump_type = type_of(words[pos]) as u32;
-    if is_one_word(ump_type) {
+    let size = size_of(ump_type);
+    // Fast path: a single word is always there, and with a constant the next step need not wait for the look-up.
+    if size.0 == 1 {
         return WordNumber(1);
     }
     if ump_type == 15 {
         return WordNumber(0);
     }
-    let size = size_of(ump_type);
     if words.len() - pos < size.0 {
         return WordNumber(0);
     }

@@ -19,16 +19,18 @@ use records::answers::Walked;
 use standard::Framed;
 use standard::Step;
 
+// The words of a packet of each type, 0 to F in order, as M2-104-UM lists them. The elements are bytes: the compiler copies the table to the stack, and sixteen bytes are one copy.
+const SIZES: [u8; 16] = [1, 1, 1, 2, 2, 4, 1, 1, 2, 2, 2, 3, 3, 4, 4, 4];
+
 // The number of words in a message of this type, as a plain number: with the struct LLVM writes every answer of the walk in pieces, and a walk of messages takes a tenth longer.
 fn plain_size(ump_type: u32) -> usize
     ensures { λ r. ⌜ r ≡ sizeOf «ump_type» ⌝ }
 {
-    match ump_type {
-        0 | 1 | 2 | 6 | 7 => 1,
-        3 | 4 | 8 | 9 | 10 => 2,
-        11 | 12 => 3,
-        _ => 4,
+    if ump_type < 16 {
+        return SIZES[ump_type as usize] as usize;
     }
+    // A number above 15 is no type; it is given four words.
+    4
 }
 
 // The number of words in a message of this type.

@@ -1,19 +1,22 @@
--- The sizes of types: the match's chain of tests is the definition's.
-use mathlib.Core.Path.{refl}
-use borrow.Author.Tests.{lt-ltb, le-ltb}
-use Rattle.laws.proofs.Pick.{here, past}
-use Rattle.standard.specs.Walk.{sizeOf}
+-- The sizes of types: the code's sixteen entries are the definition's.
+use Prim.Native.Nat.{_^_}
+use lib.Dec.{ltb, ltb→lt}
+use Rattle.laws.proofs.Lists.{entry-inside, entry-past, every-at}
+use Rattle.standard.specs.Walk.{sizes, sizeOf}
+use borrow.Author.Needs.{needs}
 use Rattle.walking.proofs.plain_size.Statement.{statement}
 use Rattle.walking.proofs.plain_size.Tie as tie
 
-pub plain-size-spec : {M : Type 1} → statement M
+cast-result : tie.Need-cast-result
+cast-result c = record { fits = ltb→lt _ _ (every-at (λ n. ltb n (2 ^ 64)) sizes 0 tt tt (c .before .args .ump-type)) }
+
+returns : tie.Need-returns
 unfolding sizeOf
-plain-size-spec =
-    tie.close (tie.spec
-    (λ c. past _ (le-ltb _ _ (c .before .before .before .before .before .if1 .left)) (past _ (le-ltb _ _ (c .before .before .before .before .if2 .left)) (past _ (le-ltb _ _ (c .before .before .before .if3 .left)) (past _ (le-ltb _ _ (c .before .before .if4 .left)) (past _ (le-ltb _ _ (c .before .if5 .left)) (here _ (lt-ltb _ _ (c .if6 .taken)) refl))))))
-    (λ c. past _ (le-ltb _ _ (c .before .before .if1 .left)) (past _ (le-ltb _ _ (c .before .if2 .left)) (here _ (lt-ltb _ _ (c .if3 .taken)) refl)))
-    (λ c. past _ (le-ltb _ _ (c .before .before .before .before .before .if1 .left)) (past _ (le-ltb _ _ (c .before .before .before .before .if2 .left)) (past _ (le-ltb _ _ (c .before .before .before .if3 .left)) (past _ (le-ltb _ _ (c .before .before .if4 .left)) (past _ (le-ltb _ _ (c .before .if5 .left)) (past _ (le-ltb _ _ (c .if6 .left)) refl))))))
-    (λ c. past _ (le-ltb _ _ (c .before .if1 .left)) (here _ (lt-ltb _ _ (c .if2 .taken)) refl))
-    (λ c. past _ (le-ltb _ _ (c .before .before .before .before .if1 .left)) (past _ (le-ltb _ _ (c .before .before .before .if2 .left)) (past _ (le-ltb _ _ (c .before .before .if3 .left)) (past _ (le-ltb _ _ (c .before .if4 .left)) (here _ (lt-ltb _ _ (c .if5 .taken)) refl)))))
-    (λ c. here _ (lt-ltb _ _ (c .if1 .taken)) refl)
-    (λ c. past _ (le-ltb _ _ (c .before .before .before .if1 .left)) (past _ (le-ltb _ _ (c .before .before .if2 .left)) (past _ (le-ltb _ _ (c .before .if3 .left)) (here _ (lt-ltb _ _ (c .if4 .taken)) refl)))))
+returns c = entry-inside sizes _ 0 4 (c .if1 .taken)
+
+returns-2 : tie.Need-returns-2
+unfolding sizeOf
+returns-2 c = entry-past sizes _ 4 (c .if1 .left)
+
+pub plain-size-spec : {M : Type 1} → statement M
+plain-size-spec = tie.close (tie.spec (λ c. search needs) cast-result returns returns-2)
