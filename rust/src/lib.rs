@@ -23,9 +23,9 @@
 //! ```
 //!
 //! A stream is walked with [`Messages`], also while its words arrive, a capture listed with
-//! [`list`]. A [`Record`] is what a message says apart from its words, and settings can be chained
-//! on it. examples/probe.rs answers a discovery, and docs/FROM_MIDI2.md in the repository is for
-//! those who know midi2.
+//! [`list`]; [`words_of_type`] has the size of each message type. A [`Record`] is what a message
+//! says apart from its words, and settings can be chained on it. examples/probe.rs answers a
+//! discovery, and docs/FROM_MIDI2.md in the repository is for those who know midi2.
 //!
 //! # Linking
 //!
