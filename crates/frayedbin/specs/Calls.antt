@@ -1,4 +1,4 @@
--- Calls with a code or a record from C, which may name no choice or be no record.
+-- Calls with a type, a code or a record from C, which may be no type, name no choice or be no record.
 use Prim.Native.Nat.{ℕ, _^_}
 use mathlib.Core.List.{List}
 use lib.ListN.{length, getD}

@@ -1,4 +1,4 @@
--- CODES FROM C, TOLD ONCE MORE, by examples in literal words and numbers.
+-- CODES, RECORDS AND TYPES FROM C, TOLD ONCE MORE, by examples in literal words and numbers.
 use Prim.Native.Nat.{ℕ}
 use mathlib.Core.Path.{_≡_}
 use mathlib.Core.Bool.{true}

@@ -1,4 +1,4 @@
--- Laws of the lists of specs/Lists.antt, of the rest of a list, and of stores into a list. By induction on the list or on the count.
+-- Laws of the lists of specs/Lists.antt, of an entry that is looked up, of the rest of a list, and of stores into a list. By induction on the list or on the count.
 use Prim.Native.Nat.{ℕ, zero, suc, _+_, _*_, _<_, _≤_}
 use mathlib.Core.Path.{_≡_, refl, sym, ap, ap₂, _∙_}
 use mathlib.Core.Bool.{Bool, true, false, _&&_}

@@ -4,11 +4,11 @@ use mathlib.Core.Path.{_≡_, refl, sym, ap}
 use mathlib.Core.Logic.{⊎-elim}
 use mathlib.Core.List.{List, _++_}
 use native.Mathlib.Omega.{arith}
-use lib.Dec.{ltb, lit≤}
+use lib.Dec.{lit≤}
 use lib.ListN.{length, getD, take, length-append}
 use lib.Seq.{length-take-le}
 use borrow.Author.Tests.{lt-ltb, le-ltb, lt-leb}
-use Rattle.laws.specs.Pick.{pick, differ}
+use Rattle.laws.specs.Pick.{differ}
 use Rattle.laws.specs.Lists.{each, upTo}
 use Rattle.laws.proofs.Pick.{split, below, here, past}
 use Rattle.laws.proofs.Lists.{length-tabulate, upTo-take}

@@ -9,7 +9,6 @@ use borrow.Author.Tests.{ltb-false, lt-ltb, le-ltb, lt-leb}
 use Rattle.laws.specs.Pick.{differ}
 use Rattle.laws.proofs.Pick.{picked, eq-differ, ne-differ}
 use Rattle.counts.specs.Counts.{word}
-use Rattle.kinds.specs.declared.refusal.Refusal.the-variants.{TooFewWords}
 use Rattle.records.specs.declared.answers.Read.{Read}
 use Rattle.records.specs.declared.answers.Read.the-variants as R
 use Rattle.records.specs.declared.answers.Walked.{Walked}

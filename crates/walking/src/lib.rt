@@ -19,7 +19,7 @@ use records::answers::Walked;
 use standard::Framed;
 use standard::Step;
 
-// The words of a packet of each type, 0 to F in order, as M2-104-UM lists them. The elements are bytes: the compiler copies the table to the stack, and sixteen bytes are one copy.
+// The words of a packet of each type, 0 to F in order, as M2-104-UM lists them. Bytes, since the compiler copies the table to the stack at each use.
 const SIZES: [u8; 16] = [1, 1, 1, 2, 2, 4, 1, 1, 2, 2, 2, 3, 3, 4, 4, 4];
 
 // The number of words in a message of this type, as a plain number: with the struct LLVM writes every answer of the walk in pieces, and a walk of messages takes a tenth longer.
