@@ -1,4 +1,6 @@
 // Writing ASCII into a lent buffer. Each function returns the place after what it wrote; what does not fit is dropped, and the place stays at the end.
+#![tactic(auto)]
+
 ghost use Rattle.std.specs.Prelude.{◌≡◌, [], ◌∷◌, ◌++◌, ◌<◌, length};
 ghost use Rattle.ascii_lines.specs.Page.{Wrote};
 ghost use Rattle.ascii_lines.specs.Numbers.{decimal, digit, hex_byte, number, numbers};

@@ -1,4 +1,5 @@
 // The parts of a 32-bit word, numbered from the highest. An index out of range reads 0 and writes nothing; a value too large for its part is not written.
+#![tactic(auto)]
 
 ghost use Rattle.std.specs.Prelude.{◌≡◌, ◌+◌, ◌^◌, ◌<◌, ◌≤◌, eqb};
 ghost use Rattle.laws.specs.Bits.{field_of, put_field};

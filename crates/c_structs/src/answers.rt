@@ -20,14 +20,14 @@ use text::{Stepped, TextStep};
 use text_copy::TextCopy;
 
 #[repr(C)]
-#[derive(Drop)]
+#[derive(Clone, Copy)]
 pub struct Answered {
     pub refusal: u32,
     pub place: usize,
 }
 
 #[repr(C)]
-#[derive(Drop)]
+#[derive(Clone, Copy)]
 pub struct RecordAnswer {
     pub refusal: u32,
     pub place: usize,
@@ -36,7 +36,7 @@ pub struct RecordAnswer {
 
 // 0 the end, 1 another type, 2 a message, 3 a refusal.
 #[repr(C)]
-#[derive(Drop)]
+#[derive(Clone, Copy)]
 pub struct WalkAnswer {
     pub found: u32,
     pub refusal: u32,
@@ -48,7 +48,7 @@ pub struct WalkAnswer {
 }
 
 #[repr(C)]
-#[derive(Drop)]
+#[derive(Clone, Copy)]
 pub struct PacketAnswer {
     pub refusal: u32,
     pub place: usize,
@@ -60,7 +60,7 @@ pub struct PacketAnswer {
 }
 
 #[repr(C)]
-#[derive(Drop)]
+#[derive(Clone, Copy)]
 pub struct SizeAnswer {
     pub refusal: u32,
     pub place: usize,
@@ -69,7 +69,7 @@ pub struct SizeAnswer {
 
 // The length of a text, also where there is no room for it.
 #[repr(C)]
-#[derive(Drop)]
+#[derive(Clone, Copy)]
 pub struct TextAnswer {
     pub refusal: u32,
     pub place: usize,
@@ -78,7 +78,7 @@ pub struct TextAnswer {
 
 // The byte, 0 at the end, and the place after it.
 #[repr(C)]
-#[derive(Drop)]
+#[derive(Clone, Copy)]
 pub struct StepAnswer {
     pub byte: u32,
     pub packet: usize,

@@ -4,19 +4,19 @@ ghost use Rattle.c_structs.specs.Codes.{hint_from_code, port_from_code, directio
 
 use kinds::choices::{Direction, Midi1Port, UiHint};
 
-#[derive(Drop)]
+#[derive(Clone, Copy)]
 pub enum HintFromCode {
     Is(UiHint),
     NoChoice,
 }
 
-#[derive(Drop)]
+#[derive(Clone, Copy)]
 pub enum PortFromCode {
     Is(Midi1Port),
     NoChoice,
 }
 
-#[derive(Drop)]
+#[derive(Clone, Copy)]
 pub enum DirectionFromCode {
     Is(Direction),
     NoChoice,

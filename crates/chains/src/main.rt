@@ -1,5 +1,7 @@
 // Chains settings on the record of each kind, and writes the record. A line has the status, the number that the chain goes up from, the chain's
 // answer, what writing the record answers, the record's packets and nine numbers, and the four words that were written into.
+#![tactic(auto)]
+
 mod chain;
 
 use chain::{case_eleven, every, own};

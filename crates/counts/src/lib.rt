@@ -1,17 +1,19 @@
 // Three kinds of count, each its own type so that they cannot be mixed up. They turn into one another by these functions, whose formulas are in specs/Counts.antt.
+#![tactic(auto)]
+
 ghost use Rattle.std.specs.Prelude.{◌≡◌};
 ghost use Rattle.counts.specs.Counts.{first_word, whole_packets, wrapped};
 
 // A packet of a message, or a number of packets.
-#[derive(Drop)]
+#[derive(Clone, Copy)]
 pub struct PacketNumber(pub usize);
 
 // A word of a slice, or a number of words.
-#[derive(Drop)]
+#[derive(Clone, Copy)]
 pub struct WordNumber(pub usize);
 
 // A byte of a text, or of one packet's text.
-#[derive(Drop)]
+#[derive(Clone, Copy)]
 pub struct TextByteNumber(pub usize);
 
 // The number of whole packets in this many words.

@@ -1,11 +1,13 @@
 // Lists the big-endian words of standard input: document 01's listing program.
 // A program has no exit status: what goes wrong is told on standard error.
+#![tactic(auto)]
+
 ghost use Rattle.io.specs.Counts.{IsPrefixLen};
 
 use libc::{STDERR_FILENO, STDIN_FILENO, STDOUT_FILENO};
 
 // How many bytes were read, and whether a read failed after them.
-#[derive(Drop)]
+#[derive(Clone, Copy)]
 struct Taken {
     bytes: usize,
     failed: bool,

@@ -1,4 +1,6 @@
 // Putting a number into a field: of a word, of one word of a buffer, or of the first word of each of some packets.
+#![tactic(auto)]
+
 ghost use Rattle.std.specs.Prelude.{◌≡◌, ◌^◌, ◌≤◌, leb};
 ghost use Rattle.fields.specs.Puts.{put_if_fits, put_in, put_each};
 

@@ -1,4 +1,6 @@
 // The library that C and Rust link: every public call under one prefix, its answer a struct of numbers.
+#![tactic(auto)]
+
 mod about;
 mod calls;
 mod device_identity;

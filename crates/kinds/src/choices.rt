@@ -2,7 +2,7 @@
 ghost use Rattle.std.specs.Prelude.{◌≡◌};
 ghost use Rattle.kinds.specs.Choices.{hint_code, hint_of, port_code, port_of, direction_code, direction_of, format_code};
 
-#[derive(Drop)]
+#[derive(Clone, Copy)]
 pub enum UiHint {
     Undeclared,
     Receiver,
@@ -10,21 +10,21 @@ pub enum UiHint {
     SenderReceiver,
 }
 
-#[derive(Drop)]
+#[derive(Clone, Copy)]
 pub enum Midi1Port {
     None,
     DontRestrictBandwidth,
     RestrictBandwidth,
 }
 
-#[derive(Drop)]
+#[derive(Clone, Copy)]
 pub enum Direction {
     Input,
     Output,
     Bidirectional,
 }
 
-#[derive(Drop)]
+#[derive(Clone, Copy)]
 pub enum Format {
     Complete,
     Start,

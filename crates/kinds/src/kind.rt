@@ -1,6 +1,6 @@
 // The seven kinds.
 
-#[derive(Drop)]
+#[derive(Clone, Copy)]
 pub enum Kind {
     EndpointDiscovery,
     EndpointInfo,
@@ -12,7 +12,7 @@ pub enum Kind {
 }
 
 // The kind of a status, where it has one.
-#[derive(Drop)]
+#[derive(Clone, Copy)]
 pub enum Known {
     Is(Kind),
     Unknown,

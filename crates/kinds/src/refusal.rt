@@ -4,7 +4,7 @@ ghost use Rattle.kinds.specs.Refusals.{refusal_number, refusal_place};
 
 use counts::PacketNumber;
 
-#[derive(Drop)]
+#[derive(Clone, Copy)]
 pub enum Refusal {
     TooFewWords,
     NotWholePackets,

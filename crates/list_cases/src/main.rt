@@ -1,6 +1,8 @@
 // Runs stored inputs through the listing, and prints each listing. Standard input has each case as the count of its bytes in
 // thirty-two bits, big-endian, and then the bytes. The cases and their listings come from an independent reading of document 01;
 // the last are 32,768 bytes, one more, every kind, every other type, and every refusal that a walk gives.
+#![tactic(auto)]
+
 ghost use Rattle.std.specs.Prelude.{◌<◌};
 
 use libc::{STDIN_FILENO, STDOUT_FILENO};

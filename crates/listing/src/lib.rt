@@ -1,4 +1,6 @@
 // The listing: big-endian words, the walk over them, and a line for each of its answers.
+#![tactic(auto)]
+
 ghost use Rattle.listing.specs.Listed.{Listed};
 
 mod answers;

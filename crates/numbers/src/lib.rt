@@ -1,4 +1,6 @@
 // A record as numbers and back: what crosses to C, and what the listing and writing go over.
+#![tactic(auto)]
+
 pub mod by_slot;
 pub mod in_slots;
 pub mod of_record;
@@ -7,7 +9,7 @@ pub mod to_record;
 
 // A record's status, its packets, and its fields in the table's order; 0 past the kind's last.
 #[repr(C)]
-#[derive(Drop)]
+#[derive(Clone, Copy)]
 pub struct Numbers {
     pub status: u32,
     pub packets: usize,
@@ -25,5 +27,5 @@ pub struct Numbers {
 
 // Room for later fields, so that the struct keeps its size for C: 0 in every answer, and never looked at.
 #[repr(C)]
-#[derive(Drop)]
+#[derive(Clone, Copy)]
 pub struct Reserved(pub u32, pub u32, pub u32, pub u32, pub u32);

@@ -18,7 +18,7 @@ use records::function_block_info::FunctionBlockInfo;
 use records::message::Message;
 use table::rows::{kind_of, row_of};
 
-#[derive(Drop)]
+#[derive(Clone, Copy)]
 pub enum FromNumbers {
     Message(Message),
     Refused(Refusal),

@@ -2,6 +2,8 @@
 // A case is a byte for what is asked, two counts in sixteen bits (words, bytes), the words and the bytes, all big-endian. Asked is
 // 0x00: read the words as one message; 0x03, 0x04, 0x12: set the bytes as that kind's text; 0x13: set them as the block number.
 // Made by: compare/build FOLDER && target/compare/lib/driver replay 450 1 crates/oracle_cases
+#![tactic(auto)]
+
 ghost use Rattle.std.specs.Prelude.{◌<◌};
 
 use kinds::refusal::Refusal;

@@ -1,5 +1,7 @@
 // A rack of renames: long runs of settings, accepted and refused, on each kind in buffers of several sizes with odd tails.
 // After every setting the words are held to a fresh message that is set once to the last accepted value of each field.
+#![tactic(auto)]
+
 mod apply;
 mod planted;
 mod run;

@@ -7,7 +7,7 @@ use crate::values::{Values, next, starting, with_number, with_text};
 use records::answers::Answer;
 
 // So many settings on a fresh message of a kind with its first number set: of one field where `only` is below 9, else of any field.
-#[derive(Drop)]
+#[derive(Clone, Copy)]
 pub(crate) struct Plan {
     pub kind: usize,
     pub only: usize,
@@ -16,7 +16,7 @@ pub(crate) struct Plan {
 }
 
 // How far a run has come: the last accepted values, and the random row.
-#[derive(Drop)]
+#[derive(Clone, Copy)]
 struct Turn {
     values: Values,
     x: u64,

@@ -2,7 +2,7 @@
 ghost use Rattle.std.specs.Prelude.{◌<◌};
 
 // Numbers in the order of the table of fields, and a part of the pool.
-#[derive(Drop)]
+#[derive(Clone, Copy)]
 pub(crate) struct Values {
     pub numbers: [u32; 9],
     pub from: usize,

@@ -2,6 +2,8 @@
 // hands out, of any slice, with the packet and byte number where the place is left. Standard input has each case as the count of its words
 // in sixteen bits and then the words, big-endian. Most cases and their answers come from an independent reading of document 01;
 // the last ones are 64 and 65 packets, and each refusal with its place.
+#![tactic(auto)]
+
 ghost use Rattle.std.specs.Prelude.{◌<◌};
 
 mod lent;

@@ -8,7 +8,7 @@ use crate::heads::{format_of, status_of, type_of};
 use counts::PacketNumber;
 use text::packets::{due_format, head_at, packets_of};
 
-#[derive(Drop)]
+#[derive(Clone, Copy)]
 pub(crate) enum Rule {
     Type,
     Status,

@@ -8,14 +8,14 @@ use counts::WordNumber;
 use kinds::refusal::Refusal;
 
 // Reading one message.
-#[derive(Drop)]
+#[derive(Clone, Copy)]
 pub enum Read {
     Message(Message),
     Refused(Refusal),
 }
 
 // Walking to a word position. Each answer but the end carries the next position.
-#[derive(Drop)]
+#[derive(Clone, Copy)]
 pub enum Walked {
     End,
     Other {
@@ -34,28 +34,28 @@ pub enum Walked {
 }
 
 // Taking a packet from a slice.
-#[derive(Drop)]
+#[derive(Clone, Copy)]
 pub enum PacketRead {
     Packet(Packet),
     Refused(Refusal),
 }
 
 // The words of the message that a slice starts with.
-#[derive(Drop)]
+#[derive(Clone, Copy)]
 pub enum MessageSize {
     Words(WordNumber),
     Refused(Refusal),
 }
 
 // Making a fresh message, a setting, or writing a record.
-#[derive(Drop)]
+#[derive(Clone, Copy)]
 pub enum Answer {
     Done,
     Refused(Refusal),
 }
 
 // A setting on a record: the record handed back, and the answer.
-#[derive(Drop)]
+#[derive(Clone, Copy)]
 pub struct Edited {
     pub message: Message,
     pub answer: Answer,

@@ -9,14 +9,14 @@ use crate::{answers, named};
 use table::names::PairName;
 
 // One field of three numbers.
-#[derive(Drop)]
+#[derive(Clone, Copy)]
 pub struct Manufacturer(pub u8, pub u8, pub u8);
 
 // One field of four numbers.
-#[derive(Drop)]
+#[derive(Clone, Copy)]
 pub struct SoftwareVersion(pub u8, pub u8, pub u8, pub u8);
 
-#[derive(Drop)]
+#[derive(Clone, Copy)]
 pub struct DeviceIdentity {
     pub device_manufacturer: Manufacturer,
     pub device_family: u16,

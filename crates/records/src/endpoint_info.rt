@@ -8,7 +8,7 @@ use crate::message::Message;
 use crate::{answers, named};
 use table::names::{FlagName, NumberName};
 
-#[derive(Drop)]
+#[derive(Clone, Copy)]
 pub struct EndpointInfo {
     pub ump_version_major: u8,
     pub ump_version_minor: u8,

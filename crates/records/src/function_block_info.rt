@@ -9,7 +9,7 @@ use crate::{answers, named};
 use kinds::choices::{Direction, Midi1Port, UiHint};
 use table::names::{FlagName, NumberName};
 
-#[derive(Drop)]
+#[derive(Clone, Copy)]
 pub struct FunctionBlockInfo {
     pub active: bool,
     pub function_block_number: u8,

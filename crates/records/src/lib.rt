@@ -1,5 +1,7 @@
 // The records of the seven kinds, the message that is one of them, and what each call answers.
 // A field's settings are in its kind's file: refusal 13 if the record's kind lacks the field, then 12.
+#![tactic(auto)]
+
 pub mod answers;
 pub mod device_identity;
 pub mod endpoint_discovery;

@@ -10,7 +10,7 @@ use crate::function_block_info::FunctionBlockInfo;
 use counts::PacketNumber;
 use kinds::kind::Kind;
 
-#[derive(Drop)]
+#[derive(Clone, Copy)]
 pub enum Message {
     EndpointDiscovery(EndpointDiscovery),
     EndpointInfo(EndpointInfo),

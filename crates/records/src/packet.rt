@@ -1,4 +1,4 @@
 // One packet of four words.
 
-#[derive(Drop)]
+#[derive(Clone, Copy)]
 pub struct Packet(pub u32, pub u32, pub u32, pub u32);

@@ -1,5 +1,7 @@
 // What a refusal's number says, and the name of a status's kind, as C strings in a lent buffer.
 // Each function answers the length of the whole text without its zero, so a caller sees what was cut.
+#![tactic(auto)]
+
 ghost use Rattle.std.specs.Prelude.{◌≡◌, length};
 ghost use Rattle.sentences.specs.Strings.{as_string};
 ghost use Rattle.sentences.specs.Sentences.{refusal_sentence, kind_name, status_name};

@@ -9,7 +9,7 @@ use records::answers::Walked;
 use records::message::{Message, kind_in, packets_in};
 use table::rows::row_of;
 
-#[derive(Drop)]
+#[derive(Clone, Copy)]
 pub enum Target {
     // The packets of the message, which is of the setting's kind.
     Packets(PacketNumber),

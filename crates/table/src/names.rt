@@ -5,7 +5,7 @@ use crate::places::place_of;
 use crate::rows::row_of;
 use kinds::kind::Kind;
 
-#[derive(Drop)]
+#[derive(Clone, Copy)]
 pub enum FlagName {
     RequestEndpointInfo,
     RequestDeviceIdentity,
@@ -20,7 +20,7 @@ pub enum FlagName {
     Active,
 }
 
-#[derive(Drop)]
+#[derive(Clone, Copy)]
 pub enum NumberName {
     DiscoveryVersionMajor,
     DiscoveryVersionMinor,
@@ -35,7 +35,7 @@ pub enum NumberName {
 }
 
 // A number of fourteen bits in two slots, the low seven bits first.
-#[derive(Drop)]
+#[derive(Clone, Copy)]
 pub enum PairName {
     DeviceFamily,
     DeviceFamilyModelNumber,
@@ -53,7 +53,7 @@ pub const DEVICE_MANUFACTURER: u8 = 0;
 pub const SOFTWARE_VERSION: u8 = 7;
 
 // The kind that has a field, and the field's first slot.
-#[derive(Drop)]
+#[derive(Clone, Copy)]
 pub struct FieldAt(pub Kind, pub u8);
 
 pub fn flag_at(flag: FlagName) -> FieldAt
@@ -101,7 +101,7 @@ pub fn pair_at(pair: PairName) -> FieldAt
 }
 
 // Where a number stands in words: the status of its kind, its word, lowest bit and width.
-#[derive(Drop)]
+#[derive(Clone, Copy)]
 pub struct Home {
     pub status: u32,
     pub word: usize,

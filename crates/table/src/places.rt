@@ -6,7 +6,7 @@ use crate::rows::row_of;
 use kinds::kind::Kind;
 
 // Word, lowest bit, width.
-#[derive(Drop)]
+#[derive(Clone, Copy)]
 pub struct Place(pub usize, pub usize, pub usize);
 
 // All slots, kind after kind: one match on a number, which the compiler turns into a table.

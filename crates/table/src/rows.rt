@@ -5,7 +5,7 @@ ghost use Rattle.table.specs.Rows.{RowIs, fixed_row, text_row, table_row};
 
 use kinds::kind::{Kind, Known};
 
-#[derive(Drop)]
+#[derive(Clone, Copy)]
 pub struct Row {
     pub status: u32,
     // The most packets that a message may have: 1 for a fixed kind, 64 for a text kind.

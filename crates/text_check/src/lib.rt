@@ -1,4 +1,6 @@
 // UTF-8 checks of text in packets and of text given as bytes. A fast check says whether the text is good; only for bad text does the plain check find the place.
+#![tactic(auto)]
+
 ghost use Rattle.std.specs.Prelude.{◌≡◌, ◌-◌, ◌/◌, length};
 ghost use Rattle.utf8.specs.Utf8.{first_bad};
 ghost use Rattle.text.specs.Bytes.{text_of};

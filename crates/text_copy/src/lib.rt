@@ -1,4 +1,6 @@
 // The whole text of one message, copied into a lent byte buffer. A call that does not copy leaves the buffer as it is.
+#![tactic(auto)]
+
 ghost use Rattle.std.specs.Prelude.{◌≡◌, ◌-◌, ◌/◌, ◌<◌, ◌≤◌, length};
 ghost use Rattle.text.specs.Bytes.{text_of};
 ghost use Rattle.text_copy.specs.Copied.{copy_text, copy_kind, copy_on};
@@ -18,7 +20,7 @@ mod put;
 mod words;
 
 // How long the text is: copied, or too long for the buffer; or why there is no text.
-#[derive(Drop)]
+#[derive(Clone, Copy)]
 pub enum TextCopy {
     Copied(TextByteNumber),
     NoRoom(TextByteNumber),

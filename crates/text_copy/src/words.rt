@@ -6,7 +6,7 @@ ghost use Rattle.text_copy.specs.Words.{four_of, octets_of, first_text, text_wor
 use counts::{PacketNumber, first_word};
 
 // The four octets of a word, the highest first.
-#[derive(Drop)]
+#[derive(Clone, Copy)]
 pub(crate) struct Octets(pub u8, pub u8, pub u8, pub u8);
 
 pub(crate) fn octets_of(w: u32) -> Octets
@@ -31,7 +31,7 @@ fn first_text(w: u32, offset: usize) -> u32
 }
 
 // The four words of a packet, with zeros in place of what is not text.
-#[derive(Drop)]
+#[derive(Clone, Copy)]
 pub(crate) struct TextWords(pub u32, pub u32, pub u32, pub u32);
 
 pub(crate) fn text_words(words: &[u32], packet: PacketNumber, offset: usize) -> TextWords

@@ -1,4 +1,6 @@
 // The text place, lent: the caller keeps one place and lends it for each byte.
+#![tactic(auto)]
+
 ghost use Rattle.std.specs.Prelude.{◌≡◌};
 ghost use Rattle.standard.specs.Place.{next_byte};
 

@@ -15,7 +15,7 @@ use text::packets::{packets_needed, packets_of};
 use text_check::check_utf8;
 use utf8::Utf8;
 
-#[derive(Drop)]
+#[derive(Clone, Copy)]
 pub(crate) enum Plan {
     // How many packets the text takes.
     Needs(PacketNumber),

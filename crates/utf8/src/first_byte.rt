@@ -16,6 +16,7 @@ pub(crate) fn char_length(b: u8) -> u8
 }
 
 // The smallest second byte after first byte b.
+#[tactic(auto, unfolding(crate::specs::Scan::second_low))]
 pub(crate) fn second_low(b: u8) -> u8
     ensures { result ≡ second_low b }
 {
@@ -27,6 +28,7 @@ pub(crate) fn second_low(b: u8) -> u8
 }
 
 // The largest second byte after first byte b.
+#[tactic(auto, unfolding(crate::specs::Scan::second_high))]
 pub(crate) fn second_high(b: u8) -> u8
     ensures { result ≡ second_high b }
 {

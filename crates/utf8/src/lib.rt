@@ -1,4 +1,6 @@
 // UTF-8 by RFC 3629: whether a text is UTF-8, and at which byte its first bad character starts.
+#![tactic(auto)]
+
 ghost use Rattle.std.specs.Prelude.{◌≡◌};
 ghost use Rattle.utf8.specs.Utf8.{first_bad};
 
@@ -10,7 +12,7 @@ pub mod scan;
 pub mod skipping_zeros;
 
 // The answer of a check. The number is the byte at which the first bad character starts.
-#[derive(Drop)]
+#[derive(Clone, Copy)]
 pub enum Utf8 {
     Good,
     BadAt(TextByteNumber),

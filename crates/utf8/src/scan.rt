@@ -6,7 +6,7 @@ use crate::{Utf8, first_byte};
 use counts::TextByteNumber;
 
 // In a character that started at byte `start`, with `due` bytes still to come, the next from `low` to `high`; or stopped at a bad character.
-#[derive(Drop)]
+#[derive(Clone, Copy)]
 pub enum Scan {
     Going {
         due: u8,
@@ -49,6 +49,7 @@ pub fn new_scan() -> Scan
 }
 
 // The check after byte b, number `at`, where a character starts. C0 and C1 would start characters in more bytes than they need, F5 and above no character.
+#[tactic(auto, unfolding(crate::specs::Scan::after_first_byte))]
 pub(crate) fn after_first_byte(at: TextByteNumber, b: u8) -> Scan
     ensures { result ≡ after_first_byte at b }
 {
@@ -72,6 +73,7 @@ pub(crate) fn after_first_byte(at: TextByteNumber, b: u8) -> Scan
 }
 
 // The check after byte b, number `at`.
+#[tactic(auto, unfolding(crate::specs::Scan::after_byte))]
 pub fn after_byte(s: Scan, at: TextByteNumber, b: u8) -> Scan
     ensures { result ≡ after_byte s at b }
 {
@@ -98,6 +100,7 @@ pub fn after_byte(s: Scan, at: TextByteNumber, b: u8) -> Scan
 }
 
 // The verdict at the end of the text.
+#[tactic(auto, unfolding(crate::specs::Scan::verdict_at_end))]
 pub fn verdict_at_end(s: Scan) -> Utf8
     ensures { result ≡ verdict_at_end s }
 {

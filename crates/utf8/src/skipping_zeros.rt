@@ -7,7 +7,7 @@ use crate::scan::Scan;
 use counts::TextByteNumber;
 
 // The state of the check, and the number of nonzero bytes read so far.
-#[derive(Drop)]
+#[derive(Clone, Copy)]
 pub struct SkippingScan {
     pub scan: Scan,
     pub at: TextByteNumber,
@@ -24,6 +24,7 @@ pub fn new_skipping_scan() -> SkippingScan
 }
 
 // The check after one more byte. A zero byte changes nothing.
+#[tactic(auto, unfolding(crate::specs::Scan::after_read))]
 pub fn read_byte(r: SkippingScan, b: u8) -> SkippingScan
     ensures { result ≡ after_read r b }
 {

@@ -1,4 +1,6 @@
 // Walks a stream of words: what stands at a position (the end, another type, a message or a refusal), and where the next one starts.
+#![tactic(auto)]
+
 pub mod helpers;
 
 ghost use Rattle.std.specs.Prelude.{◌≡◌, ◌<◌, length};
