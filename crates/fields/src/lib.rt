@@ -46,6 +46,7 @@ pub fn with_field(w: u32, at: usize, span: usize, v: u32) -> u32
 }
 
 // The same in one word of a buffer.
+#[tactic(auto, unfolding(crate::specs::Puts::put_in))]
 pub fn put_field(words: &mut [u32], word: WordNumber, at: usize, span: usize, v: u32)
     ensures { words.new ≡ put_in word.0 at span v words.old }
 {
@@ -56,6 +57,7 @@ pub fn put_field(words: &mut [u32], word: WordNumber, at: usize, span: usize, v:
 }
 
 // The same in the first word of each of some packets.
+#[tactic(auto, unfolding(crate::specs::Puts::put_each, text::specs::Written::each_first))]
 pub fn put_each(words: &mut [u32], packets: PacketNumber, at: usize, span: usize, v: u32)
     ensures { words.new ≡ put_each packets.0 at span v words.old }
 {

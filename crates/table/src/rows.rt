@@ -68,6 +68,7 @@ pub fn head_of(kind: Kind) -> u32
     0xF000_0000 + row.status * 0x1_0000
 }
 
+#[tactic(auto, unfolding(kinds::specs::Layout::layout, kinds::specs::Layout::among))]
 pub fn kind_of(status: u32) -> Known
     ensures { result ≡ kind_of status }
 {

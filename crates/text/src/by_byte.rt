@@ -10,6 +10,7 @@ use crate::{Stepped, TextPlace, TextStep};
 use counts::{PacketNumber, TextByteNumber, first_word};
 
 // Octet j of a word.
+#[tactic(auto, unfolding(crate::specs::Octets::octet_of))]
 fn octet_of(word: u32, j: usize) -> u8
     requires { j < 4 }
     ensures { result ≡ octet_of word j }
@@ -18,6 +19,7 @@ fn octet_of(word: u32, j: usize) -> u8
 }
 
 // The text byte at a place; 0 if no whole packet has such a byte. Octet o of a packet is octet o % 4 of its word o / 4.
+#[tactic(auto, unfolding(crate::specs::Place::byte_at, crate::specs::Bytes::text_byte))]
 pub fn text_byte(words: &[u32], offset: usize, at: TextPlace) -> u8
     ensures { result ≡ byte_at words.now (14 - offset) at }
 {

@@ -38,6 +38,7 @@ pub fn packets_needed(bytes: TextByteNumber, capacity: usize) -> PacketNumber
 }
 
 // The format of packet `p` of `n`.
+#[tactic(auto, unfolding(crate::specs::Octets::due_format))]
 pub fn due_format(n: PacketNumber, p: PacketNumber) -> u8
     ensures { result ≡ due_format n.0 p.0 }
 {

@@ -3,6 +3,7 @@ ghost use Rattle.std.specs.Prelude.{◌≡◌};
 ghost use Rattle.text_check.specs.FastCheck.{ascii_word, ascii_words};
 
 // Whether all four octets of a word are below 128. LLVM turns the four tests into one.
+#[tactic(auto, unfolding(crate::specs::FastCheck::ascii_word, text::specs::Octets::octet_of))]
 pub(crate) fn ascii_word(w: u32) -> bool
     ensures { result ≡ ascii_word w }
 {

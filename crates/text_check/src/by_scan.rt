@@ -10,6 +10,7 @@ use utf8::scan::Scan;
 pub(crate) const BAD: u64 = 0x3F7F01;
 
 // The scan that s stands for: `due` in the lowest octet, then how far `low` is above 80 and how far `high` is below BF.
+#[tactic(auto, unfolding(crate::specs::FastCheck::scan_of))]
 fn scan_of(s: u64) -> Scan
     ensures { result ≡ scan_of s }
 {
@@ -22,6 +23,7 @@ fn scan_of(s: u64) -> Scan
 }
 
 // The number of a scan.
+#[tactic(auto, unfolding(crate::specs::FastCheck::number_of))]
 fn number_of(k: Scan) -> u64
     ensures { result ≡ number_of k }
 {
@@ -37,6 +39,7 @@ fn number_of(k: Scan) -> u64
 }
 
 // The scan after byte b of a packet's text. A zero byte is dropped.
+#[tactic(auto, unfolding(crate::specs::FastCheck::after_text_byte))]
 fn after_text_byte(k: Scan, b: u8) -> Scan
     ensures { result ≡ after_text_byte k b }
 {
@@ -47,6 +50,7 @@ fn after_text_byte(k: Scan, b: u8) -> Scan
 }
 
 // Whether no character is open.
+#[tactic(auto, unfolding(crate::specs::FastCheck::none_open))]
 pub(crate) fn none_open(k: Scan) -> bool
     ensures { result ≡ none_open k }
 {
@@ -62,6 +66,7 @@ pub(crate) fn none_open(k: Scan) -> bool
 }
 
 // The number after the four octets of w.
+#[tactic(auto, unfolding(crate::specs::FastCheck::after_word, text::specs::Octets::octet_of))]
 pub(crate) fn after_word_by_scan(s: u64, w: u32) -> u64
     ensures { result ≡ after_word s w }
 {

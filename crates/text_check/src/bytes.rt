@@ -12,6 +12,7 @@ use utf8::scan;
 use utf8::scan::Scan;
 
 // How many octets at the start of w are whole characters: 4 if all are ASCII, 3 if they are one three-byte character. Returns 0 if this test cannot decide.
+#[tactic(auto, unfolding(crate::specs::FastCheck::whole_characters))]
 fn whole_characters(w: u32) -> usize
     ensures { result ≡ whole_characters w }
 {
@@ -65,6 +66,7 @@ fn skip_ascii(text: &[u8], from: usize) -> usize
 }
 
 // Whether the twelve bytes from byte i on are four simple three-byte characters.
+#[tactic(auto, unfolding(crate::specs::FastCheck::run_at))]
 fn run_at(text: &[u8], i: usize) -> bool
     requires { i + 12 ≤ length text.now }
     ensures { result ≡ run_at text.now i }
@@ -147,6 +149,7 @@ fn is_good_from(text: &[u8], from: usize) -> bool
 }
 
 // Whether the text is UTF-8.
+#[tactic(auto, unfolding(crate::specs::FastCheck::none_open))]
 pub(crate) fn is_good(text: &[u8]) -> bool
     ensures { result ≡ is_good (first_bad text.now) }
 {

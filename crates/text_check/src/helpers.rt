@@ -7,6 +7,7 @@ use crate::words::text_mask;
 use counts::{PacketNumber, WordNumber};
 
 // Whether a packet exists and its text is all ASCII or zero.
+#[tactic(auto, unfolding(crate::specs::FastCheck::ascii_packet))]
 pub fn ascii_packet(words: &[u32], offset: usize, packet: PacketNumber) -> bool
     ensures { result ≡ ascii_packet words.now offset packet.0 }
 {

@@ -31,6 +31,7 @@ fn simple_first(b: u32) -> bool
 }
 
 // Whether byte b continues a run of simple characters that has `due` tails due.
+#[tactic(auto, unfolding(crate::specs::FastCheck::run_of_one))]
 pub(crate) fn run_of_one(due: u64, b: u32) -> bool
     ensures { result ≡ run_of_one due b }
 {
@@ -43,6 +44,7 @@ pub(crate) fn run_of_one(due: u64, b: u32) -> bool
 }
 
 // Whether two bytes continue such a run.
+#[tactic(auto, unfolding(crate::specs::FastCheck::run_of_two))]
 pub(crate) fn run_of_two(due: u64, a: u32, b: u32) -> bool
     ensures { result ≡ run_of_two due a b }
 {
@@ -55,6 +57,7 @@ pub(crate) fn run_of_two(due: u64, a: u32, b: u32) -> bool
 }
 
 // Whether the first three octets of w are a simple character. Here and below the high bits are tested first, so that LLVM joins these tests into one.
+#[tactic(auto, unfolding(crate::specs::FastCheck::first_three, text::specs::Octets::octet_of))]
 pub(crate) fn first_three(w: u32) -> bool
     ensures { result ≡ first_three w }
 {
@@ -65,6 +68,7 @@ pub(crate) fn first_three(w: u32) -> bool
 }
 
 // Whether the last three octets of w are a simple character.
+#[tactic(auto, unfolding(crate::specs::FastCheck::last_three, text::specs::Octets::octet_of))]
 pub(crate) fn last_three(w: u32) -> bool
     ensures { result ≡ last_three w }
 {
@@ -75,6 +79,7 @@ pub(crate) fn last_three(w: u32) -> bool
 }
 
 // Whether the four octets of w continue a run that has no tail due.
+#[tactic(auto, unfolding(crate::specs::FastCheck::run_none_due, text::specs::Octets::octet_of))]
 pub(crate) fn run_none_due(w: u32) -> bool
     ensures { result ≡ run_none_due w }
 {
@@ -87,6 +92,7 @@ pub(crate) fn run_none_due(w: u32) -> bool
 }
 
 // Whether the four octets of w continue a run that has one tail due.
+#[tactic(auto, unfolding(crate::specs::FastCheck::run_one_due, text::specs::Octets::octet_of))]
 pub(crate) fn run_one_due(w: u32) -> bool
     ensures { result ≡ run_one_due w }
 {
@@ -98,6 +104,7 @@ pub(crate) fn run_one_due(w: u32) -> bool
 }
 
 // Whether the four octets of w continue a run that has two tails due.
+#[tactic(auto, unfolding(crate::specs::FastCheck::run_two_due, text::specs::Octets::octet_of))]
 pub(crate) fn run_two_due(w: u32) -> bool
     ensures { result ≡ run_two_due w }
 {
@@ -109,6 +116,7 @@ pub(crate) fn run_two_due(w: u32) -> bool
 }
 
 // Whether the four octets of w continue a run that has `due` tails due.
+#[tactic(auto, unfolding(crate::specs::FastCheck::run_of_four))]
 pub(crate) fn run_of_four(due: u64, w: u32) -> bool
     ensures { result ≡ run_of_four due w }
 {
@@ -121,6 +129,7 @@ pub(crate) fn run_of_four(due: u64, w: u32) -> bool
 }
 
 // Whether the twelve octets of three words continue a run that has `due` tails due. As many are due after them.
+#[tactic(auto, unfolding(crate::specs::FastCheck::run_of_twelve))]
 pub(crate) fn run_of_twelve(due: u64, a: u32, b: u32, c: u32) -> bool
     ensures { result ≡ run_of_twelve due a b c }
 {

@@ -24,6 +24,7 @@ fn after_first_word(s: u64, w: u32) -> u64
 }
 
 // The number after w, another word of a packet. The text may end in it, and then its second half is zero.
+#[tactic(auto, unfolding(text::specs::Octets::octet_of))]
 fn after_word(s: u64, w: u32) -> u64
     ensures { result ≡ after_word s w }
 {
@@ -66,6 +67,7 @@ fn after_packet(s: u64, a: u32, b: u32, c: u32, d: u32) -> u64
 }
 
 // The mask that keeps a word's text: its last (end - offset) octets, at most four.
+#[tactic(auto, unfolding(crate::specs::FastCheck::text_mask, crate::specs::FastCheck::mask_bits))]
 pub(crate) fn text_mask(end: usize, offset: usize) -> u32
     ensures { result ≡ text_mask end offset }
 {
