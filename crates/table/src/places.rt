@@ -11,7 +11,6 @@ pub struct Place(pub usize, pub usize, pub usize);
 
 // All slots, kind after kind: one match on a number, which the compiler turns into a table.
 #[tactic(auto, unfolding(laws::specs::Lists::each, kinds::specs::Layout::layout))]
-#[tactic(auto, unfolding(laws::specs::Lists::each, kinds::specs::Layout::layout))]
 fn nth_place(n: usize) -> Place
     ensures { PlaceIs (slot_at every_slot n) result }
 {

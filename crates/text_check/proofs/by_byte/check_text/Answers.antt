@@ -10,18 +10,6 @@ use Rattle.text.proofs.Place.{byte_in}
 use Rattle.text_check.proofs.ByByte.{ToCheck, AfterByte, no_capacity, to_check_begin, to_check_turn, to_check_stop, to_check_next_byte, to_check_next_packet, to_check_finish}
 use Rattle.text_check.proofs.by_byte.check_text.Goals as goal
 
--- what holds after a byte was read, on every path from there
-passed : (c : tie.After-read-byte invariant-loop decreases-loop) →
-    let l = c in
-    let start = l in
-    let words = start.args.words.now in
-    AfterByte words (14 - start.args.offset) (length words / 4) c.read_byte-r.result l.loop-p.p l.loop-p.b
-passed c =
-    let l = c in
-    let start = l in
-    let h = (rw l.loop-p.invariant.0 at c.loop-p-test.true) in
-    to_check_turn _ _ _ l.loop-p.r _ l.loop-p.p l.loop-p.b h (omega (arith, start.well-formed.0.1, l.loop-p.invariant.1.few, l.loop-p.invariant.1.low)) l.loop-p.invariant.1 (c.read_byte-r.ensures ∙ ap (after_read _) (c.text_byte.ensures ∙ byte_in _ _ _ h l.loop-p.invariant.1.low))
-
 pub returns-then-offset-ge14 : goal.returns-then-offset-ge14
 returns-then-offset-ge14 c = no_capacity _ _ _ (omega arith)
 
@@ -29,13 +17,28 @@ pub loop-p-init : goal.loop-p-init
 loop-p-init c = (ap (λ (n : PacketNumber). n.0) c.whole_packets-packets.ensures, rw c.new_skipping_scan-r.ensures (to_check_begin _ _ _ (omega arith)))
 
 pub returns-in-Stopped : goal.returns-in-Stopped
-returns-in-Stopped c = to_check_stop _ _ _ _ _ _ _ (passed c) c.in-Stopped.is
+returns-in-Stopped c = to_check_stop _ _ _ _ _ _ _ ((let l = c in
+    let start = l in
+    let h = (rw l.loop-p.invariant.0 at c.loop-p-test.true) in
+    to_check_turn _ _ _ l.loop-p.r _ l.loop-p.p l.loop-p.b h (omega (arith, l.loop-p.invariant.1.few, l.loop-p.invariant.1.low)) l.loop-p.invariant.1 (c.read_byte-r.ensures ∙ ap (after_read _) (c.text_byte.ensures ∙ byte_in _ _ _ h l.loop-p.invariant.1.low)))) c.in-Stopped.is
 
 pub loop-p-preserved-then-b-offset : goal.loop-p-preserved-then-b-offset
-loop-p-preserved-then-b-offset c = (c.loop-p.invariant.0, to_check_next_packet _ _ _ _ _ _ c.if-b-offset.true (omega arith) (passed c))
+loop-p-preserved-then-b-offset c = (
+  c.loop-p.invariant.0,
+  to_check_next_packet _ _ _ _ _ _ c.if-b-offset.true (omega arith) ((let l = c in
+      let start = l in
+      let h = (rw l.loop-p.invariant.0 at c.loop-p-test.true) in
+      to_check_turn _ _ _ l.loop-p.r _ l.loop-p.p l.loop-p.b h (omega (arith, l.loop-p.invariant.1.few, l.loop-p.invariant.1.low)) l.loop-p.invariant.1 (c.read_byte-r.ensures ∙ ap (after_read _) (c.text_byte.ensures ∙ byte_in _ _ _ h l.loop-p.invariant.1.low)))),
+)
 
 pub loop-p-preserved : goal.loop-p-preserved
-loop-p-preserved c = (c.loop-p.invariant.0, to_check_next_byte _ _ _ _ _ _ (omega arith) (passed c))
+loop-p-preserved c = (
+  c.loop-p.invariant.0,
+  to_check_next_byte _ _ _ _ _ _ (omega arith) ((let l = c in
+      let start = l in
+      let h = (rw l.loop-p.invariant.0 at c.loop-p-test.true) in
+      to_check_turn _ _ _ l.loop-p.r _ l.loop-p.p l.loop-p.b h (omega (arith, l.loop-p.invariant.1.few, l.loop-p.invariant.1.low)) l.loop-p.invariant.1 (c.read_byte-r.ensures ∙ ap (after_read _) (c.text_byte.ensures ∙ byte_in _ _ _ h l.loop-p.invariant.1.low)))),
+)
 
 pub returns : goal.returns
 returns c =

@@ -11,28 +11,29 @@ use Rattle.text_check.proofs.Skips.{AtByte, bytes_turn, skip_at, bytes_finish}
 use borrow.Author.Rules.{rules}
 use Rattle.text_check.proofs.bytes.is_good_from.Goals as goal
 
--- what holds after a byte was read, on every path from there
-byte : (c : tie.After-after-byte invariant-loop decreases-loop) →
-    let l = c in
-    let start = l in
-    let text = start.args.text.now in
-    AtByte text (is_good (first_bad (drop start.args.from text))) c.after_byte-s.result (l.loop-i.i + 1)
-byte c =
-    let l = c in
-    rw c.after_byte-s.ensures
-    (bytes_turn _ _ (λ k. (c.type_inv.text k).fits) _ _ c.loop-i-test.true l.loop-i.invariant.1)
-
 pub loop-i-init : goal.loop-i-init
 loop-i-init c = (search rules, rw c.new_scan-s.ensures (answer_start _))
 
 pub returns-in-Stopped : goal.returns-in-Stopped
-returns-in-Stopped c = answer_stopped _ _ _ _ c.in-Stopped.is (byte c)
+returns-in-Stopped c = answer_stopped _ _ _ _ c.in-Stopped.is ((let l = c in
+    rw c.after_byte-s.ensures
+    (bytes_turn _ _ (λ k. (c.type_inv.text k).fits) _ _ c.loop-i-test.true l.loop-i.invariant.1)))
 
 pub loop-i-preserved-then-none_open : goal.loop-i-preserved-then-none_open
-loop-i-preserved-then-none_open c = (c.skip_by_words-i.ensures.in_bounds, skip_at _ _ _ _ _ (told c.none_open.ensures c.if-none_open.true) c.skip_by_words-i.ensures (byte c))
+loop-i-preserved-then-none_open c = (
+  c.skip_by_words-i.ensures.in_bounds,
+  skip_at _ _ _ _ _ (told c.none_open.ensures c.if-none_open.true) c.skip_by_words-i.ensures ((let l = c in
+      rw c.after_byte-s.ensures
+      (bytes_turn _ _ (λ k. (c.type_inv.text k).fits) _ _ c.loop-i-test.true l.loop-i.invariant.1))),
+)
 
 pub loop-i-preserved : goal.loop-i-preserved
-loop-i-preserved c = (search rules, byte c)
+loop-i-preserved c = (
+  search rules,
+  (let l = c in
+      rw c.after_byte-s.ensures
+      (bytes_turn _ _ (λ k. (c.type_inv.text k).fits) _ _ c.loop-i-test.true l.loop-i.invariant.1)),
+)
 
 pub returns : goal.returns
 returns c = c.none_open-2.ensures ∙ bytes_finish _ _ _ _ c.loop-i-test.false c.loop-i.invariant.1

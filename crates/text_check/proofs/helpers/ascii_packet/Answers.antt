@@ -12,20 +12,14 @@ use Rattle.text_check.specs.FastCheck.{ascii_packet}
 use Rattle.text_check.proofs.helpers.ascii_packet.Goals as goal
 use Rattle.text_check.proofs.helpers.ascii_packet.Invariants.{Within}
 
-within : (c : tie.After-first-word) →
-    let start = c in
-    Within start.args.packet.0 c.first_word-first.result.0 (length start.args.words.now)
-within c =
-    let start = c in
-    let h = (rw c.whole_packets-packets.ensures at c.if-packets-packet.false) in
-    let e = ap (λ (w : WordNumber). w.0) (c.first_word-first.ensures ∙ first-word start.args.packet.0 (omega (arith, h, start.well-formed.0.1))) in
-    record { whole = h; first = e; words = omega (arith, h, e); short = omega (arith, start.well-formed.0.1) }
-
 pub returns : goal.returns
 unfolding ascii_packet
 returns c =
     let first = c in
-    let w = within first in
+    let w = (let start = c in
+    let h = (rw c.whole_packets-packets.ensures at c.if-packets-packet.false) in
+    let e = ap (λ (w : WordNumber). w.0) (c.first_word-first.ensures ∙ first-word start.args.packet.0 (omega (arith, h))) in
+    record { whole = h; first = e; words = omega (arith, h, e); short = omega arith }) in
     past _ (lt-leb _ _ w.whole)
     (rw (sym w.first, sym c.text_mask-4.ensures, sym c.text_mask-3.ensures, sym c.text_mask-2.ensures, sym c.text_mask.ensures)
     c.ascii_words.ensures)
