@@ -15,9 +15,11 @@ pub loop-i-init : goal.loop-i-init
 loop-i-init c = (search rules, rw c.new_scan-s.ensures (answer_start _))
 
 pub returns-in-Stopped : goal.returns-in-Stopped
-returns-in-Stopped c = answer_stopped _ _ _ _ c.in-Stopped.is ((let l = c in
-    rw c.after_byte-s.ensures
-    (bytes_turn _ _ (λ k. (c.type_inv.text k).fits) _ _ c.loop-i-test.true l.loop-i.invariant.1)))
+returns-in-Stopped c =
+    let text = c.args.text.now in
+    let byte : AtByte text (is_good (first_bad (drop c.args.from text))) c.after_byte-s.result (c.loop-i.i + 1) =
+        rw c.after_byte-s.ensures (bytes_turn _ _ (λ k. (c.type_inv.text k).fits) _ _ c.loop-i-test.true c.loop-i.invariant.1) in
+    answer_stopped _ _ _ _ c.in-Stopped.is byte
 
 pub loop-i-preserved-then-none_open : goal.loop-i-preserved-then-none_open
 loop-i-preserved-then-none_open c = (

@@ -12,30 +12,6 @@ use Rattle.text_check.proofs.AsciiPackets.{ascii_reached}
 use borrow.Author.Rules.{rules}
 use Rattle.text_check.proofs.words.is_good.Goals as goal
 
--- the packet's first word is p * 4, and its four words stand in the slice
-within : (c : tie.After-first-word invariant-loop decreases-loop) →
-    let l = c in
-    let start = l in
-    (c.first_word-first.result.0 ≡ l.loop-p.p * 4) × (l.loop-p.p * 4 + 4 ≤ length start.args.words.now) × (length start.args.words.now * 4 < 2 ^ 63)
-within c =
-    let l = c in
-    let start = l in
-    let h = (rw l.loop-p.invariant.1 at c.loop-p-test.true) in
-    (ap (λ (w : WordNumber). w.0) (c.first_word-first.ensures ∙ first-word l.loop-p.p (omega (arith, h, start.well-formed.0.1))), omega (arith, h), omega (arith, start.well-formed.0.1))
-
--- what holds after a packet was checked, on both paths from there
-passed : (c : tie.After-after-packet invariant-loop decreases-loop) →
-    let l = c in
-    let start = l in
-    let ws = start.args.words.now in
-    AtPacket ws start.args.offset c.after_packet-s.result (l.loop-p.p + 1) (length ws / 4)
-passed c =
-    let first = c in
-    let l = first in
-    let start = l in
-    rw (c.after_packet-s.ensures, (within first).0, l.text_mask-m3.ensures, l.text_mask-m2.ensures, l.text_mask-m1.ensures, l.text_mask-m0.ensures)
-    (packets_turn start.args.words.now start.args.offset l.loop-p.s l.loop-p.p _ (rw l.loop-p.invariant.1 at first.loop-p-test.true) l.loop-p.invariant.2)
-
 pub loop-p-init : goal.loop-p-init
 loop-p-init c =
     let n : c.whole_packets-packets.result.0 ≡ length c.args.words.now / 4 = ap (λ (n : PacketNumber). n.0) c.whole_packets-packets.ensures in
@@ -43,10 +19,24 @@ loop-p-init c =
     (omega (arith, n, plain.in_bounds), n, ascii_reached _ _ plain)
 
 pub returns-then-s-eq-BAD : goal.returns-then-s-eq-BAD
-returns-then-s-eq-BAD c = answer_bad _ _ _ c.if-s-eq-BAD.true (passed c)
+returns-then-s-eq-BAD c =
+    let h = rw c.loop-p.invariant.1 at c.loop-p-test.true in
+    let first : c.first_word-first.result.0 ≡ c.loop-p.p * 4 = ap (λ (w : WordNumber). w.0) (c.first_word-first.ensures ∙ first-word c.loop-p.p (omega (arith, h))) in
+    let ws = c.args.words.now in
+    let passed : AtPacket ws c.args.offset c.after_packet-s.result (c.loop-p.p + 1) (length ws / 4) =
+        rw (c.after_packet-s.ensures, first, c.text_mask-m3.ensures, c.text_mask-m2.ensures, c.text_mask-m1.ensures, c.text_mask-m0.ensures)
+        (packets_turn ws c.args.offset c.loop-p.s c.loop-p.p _ h c.loop-p.invariant.2) in
+    answer_bad _ _ _ c.if-s-eq-BAD.true passed
 
 pub loop-p-preserved : goal.loop-p-preserved
-loop-p-preserved c = (search rules, c.loop-p.invariant.1, passed c)
+loop-p-preserved c =
+    let h = rw c.loop-p.invariant.1 at c.loop-p-test.true in
+    let first : c.first_word-first.result.0 ≡ c.loop-p.p * 4 = ap (λ (w : WordNumber). w.0) (c.first_word-first.ensures ∙ first-word c.loop-p.p (omega (arith, h))) in
+    let ws = c.args.words.now in
+    let passed : AtPacket ws c.args.offset c.after_packet-s.result (c.loop-p.p + 1) (length ws / 4) =
+        rw (c.after_packet-s.ensures, first, c.text_mask-m3.ensures, c.text_mask-m2.ensures, c.text_mask-m1.ensures, c.text_mask-m0.ensures)
+        (packets_turn ws c.args.offset c.loop-p.s c.loop-p.p _ h c.loop-p.invariant.2) in
+    (search rules, c.loop-p.invariant.1, passed)
 
 pub returns : goal.returns
 returns c = let l = c.loop-p in packets_finish _ _ _ _ _ (rw l.invariant.1 at c.loop-p-test.false) l.invariant.2
