@@ -14,6 +14,7 @@ fn end_of_packets(words: WordNumber) -> WordNumber
 }
 
 // Clears every word from word `from` on, up to the end of the last whole packet.
+#[tactic(auto, unfolding(crate::specs::Acts::clear_from))]
 pub(crate) fn clear_from(words: &mut [u32], from: WordNumber)
     requires { from.0 ≤ whole_words words.old }
     ensures { words.new ≡ clear_from from.0 words.old }

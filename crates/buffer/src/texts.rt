@@ -69,6 +69,7 @@ fn joined(head: u32, octets: usize, bytes: u32) -> u32
 }
 
 // Octet j of a packet with this head: the octets of the head, then zeros, then the text.
+#[tactic(auto, unfolding(text::specs::Octets::octet_of))]
 fn octet_at(text: &[u8], offset: usize, head: u32, packet: PacketNumber, j: usize) -> u32
     requires { (offset < 14) × (packet.0 < 64) × (j < 16) }
     ensures value { result ≡ octet_at text.now (λ f. head) (14 - offset) 0 packet.0 j }
@@ -85,6 +86,7 @@ fn octet_at(text: &[u8], offset: usize, head: u32, packet: PacketNumber, j: usiz
 }
 
 // Word q of a packet with this head, octet by octet.
+#[tactic(auto, unfolding(text::specs::Written::word_in))]
 fn word_in(text: &[u8], offset: usize, head: u32, packet: PacketNumber, q: usize) -> u32
     requires { (offset < 14) × (packet.0 < 64) × (q < 4) }
     ensures { result ≡ word_in text.now (λ f. head) (14 - offset) 0 packet.0 q }
@@ -251,6 +253,7 @@ fn fill_all(words: &mut [u32], text: &[u8], offset: usize, head: u32, packets: P
 }
 
 // Writes the text into some packets, starting at octet 2 + offset of each, and clears every whole packet after them.
+#[tactic(auto, unfolding(crate::specs::Acts::fill_text, text::specs::Written::written))]
 pub fn fill_text(words: &mut [u32], text: &[u8], offset: usize, head: u32, packets: PacketNumber)
     ensures { words.new ≡ fill_text text.now offset head packets.0 words.old }
 {

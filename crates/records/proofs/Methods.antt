@@ -8,9 +8,6 @@ use native.Mathlib.Omega.{arith}
 use lib.Dec.{T, ltb, eqb}
 use lib.ListN.{length}
 use borrow.Author.Tests.{lt-ltb, le-ltb, ltb-true, not-false, ne_eqb}
-use mir.Val.{has_key}
-use types.Run.{OneOf, miss}
-use denote.Enum.Declared.{tag_of}
 use Rattle.laws.specs.Pick.{pick, both}
 use Rattle.laws.specs.Lists.{tabulate}
 use Rattle.laws.proofs.Pick.{below, both_left, both_right, both_alone}
@@ -27,62 +24,54 @@ use Rattle.kinds.specs.Layout.{layout, kinds, none, slots_of}
 use Rattle.kinds.proofs.Codes.{bit_fits, hint_fits, port_fits, direction_fits}
 use Rattle.kinds.proofs.Rows.{every_kind, at_kind}
 use Rattle.kinds.proofs.Homes.{one_status, elsewhere}
+use Rattle.counts.specs.declared.PacketNumber.{PacketNumber}
+use Rattle.records.specs.declared.endpoint_discovery.EndpointDiscovery.{EndpointDiscovery}
+use Rattle.records.specs.declared.endpoint_info.EndpointInfo.{EndpointInfo}
+use Rattle.records.specs.declared.device_identity.DeviceIdentity.{DeviceIdentity}
+use Rattle.records.specs.declared.function_block_info.FunctionBlockInfo.{FunctionBlockInfo}
 use Rattle.records.specs.declared.message.Message.{Message}
 use Rattle.records.specs.declared.message.Message.TheVariants as M
 use Rattle.records.specs.declared.answers.Answer.TheVariants as A
 use Rattle.records.specs.declared.answers.Edited.{Edited}
 use Rattle.records.specs.Records.{kind_in, packets_in, record_of, fields_in, lookup, values_of}
 use Rattle.records.specs.Settings.{with, lacks, is_too_large, edited, set_record, septets}
-use Rattle.records.specs.contracts.message.Message.{the_type}
 use Rattle.records.proofs.Settings.{lacking, too_large, made}
 pub use mathlib.Core.Path.{refl}
 pub use Rattle.kinds.proofs.Codes.{bit_flag, hint_back, port_back, direction_back}
 
--- ---- which record the last arm of a match has: one of none of the kinds that the other arms have
--- the place of a kind among some kinds, and of its record among the variants
-unfoldable pub place_among : List Kind → Kind → ℕ
-place_among [] k = 0
-place_among (j ∷ js) k = pick (eqb (layout j).status (layout k).status) 0 (suc (place_among js k))
+-- ---- which record the last arm of a match has: none of the kinds that the other arms have
+-- the message is no record of this kind, as the last arm of a match says it
+abbrev pub IsNot : Kind → Message → Type 0
+IsNot K.EndpointDiscovery m = (x : EndpointDiscovery) → m ≡ M.EndpointDiscovery x → ⊥
+IsNot K.EndpointInfo m = (x : EndpointInfo) → m ≡ M.EndpointInfo x → ⊥
+IsNot K.DeviceIdentity m = (x : DeviceIdentity) → m ≡ M.DeviceIdentity x → ⊥
+IsNot K.EndpointName m = (n : PacketNumber) → m ≡ M.EndpointName n → ⊥
+IsNot K.ProductInstanceId m = (n : PacketNumber) → m ≡ M.ProductInstanceId n → ⊥
+IsNot K.FunctionBlockInfo m = (x : FunctionBlockInfo) → m ≡ M.FunctionBlockInfo x → ⊥
+IsNot K.FunctionBlockName m = (b : ℕ) (n : PacketNumber) → m ≡ M.FunctionBlockName b n → ⊥
 
-abbrev variant_of : Kind → ℕ
-variant_of k = place_among kinds k
+own_kind : (m : Message) → IsNot (kind_in m) m → ⊥
+own_kind (M.EndpointDiscovery x) d = d x refl
+own_kind (M.EndpointInfo x) d = d x refl
+own_kind (M.DeviceIdentity x) d = d x refl
+own_kind (M.EndpointName n) d = d n refl
+own_kind (M.ProductInstanceId n) d = d n refl
+own_kind (M.FunctionBlockInfo x) d = d x refl
+own_kind (M.FunctionBlockName b n) d = d b n refl
 
-unfoldable pub without : ℕ → List ℕ → List ℕ
-without x [] = []
-without x (y ∷ ys) = pick (eqb y x) (without x ys) (y ∷ without x ys)
-
--- the places of all kinds but one
-abbrev but : Kind → List ℕ
-but k = without (variant_of k) (tabulate (length kinds) (λ i. i))
+other_kind : (k : Kind) (m : Message) → IsNot k m → kind_in m ≡ k → ⊥
+other_kind k m d e = own_kind m (subst (λ (j : Kind). IsNot j m) (sym e) d)
 
 -- to unfold this is to unfold what computes the table and a record at a kind
 unfoldable pub table : Unit {0}
-unfolding layout those same decided fits both part_of record_of fields_in lookup septets place_among without tabulate
+unfolding layout those same decided fits both part_of record_of fields_in lookup septets
 table = tt
-
-place_is : (m : Message) → tag_of the_type m ≡ variant_of (kind_in m)
-unfolding table
-place_is (M.EndpointDiscovery e) = refl
-place_is (M.EndpointInfo e) = refl
-place_is (M.DeviceIdentity e) = refl
-place_is (M.EndpointName n) = refl
-place_is (M.ProductInstanceId n) = refl
-place_is (M.FunctionBlockInfo e) = refl
-place_is (M.FunctionBlockName b n) = refl
-
-but_lacks : (k : Kind) → T (not (has_key (but k) (variant_of k)))
-unfolding every_kind table
-but_lacks k = rw (at_kind (λ j. not (has_key (but j) (variant_of j))) refl k) tt
-
--- a record whose place is among these is of no kind whose place is not
-other_kind : (ks : List ℕ) (m : Message) (k : Kind) → OneOf ks (tag_of the_type m) → T (not (has_key ks (variant_of k))) → kind_in m ≡ k → ⊥
-other_kind ks m k o h e = miss ks (variant_of k) h (subst (OneOf ks) (place_is m ∙ ap variant_of e) o)
 
 -- ---- the answers
 module _ (s : Setting) {m : Message} {r : Edited} where
   -- the field is another kind's
-  pub other : (k : Kind) → none (slots_of (field_in s) (layout k).fields) ≡ false → r ≡ edited m (A.Refused NoSuchField) → OneOf (but k) (tag_of the_type m) → r ≡ set_record s m
-  other k h e o = e ∙ lacking s m (elsewhere k (kind_in m) (field_in s) h (other_kind (but k) m k o (but_lacks k)))
+  pub other : (k : Kind) → none (slots_of (field_in s) (layout k).fields) ≡ false → r ≡ edited m (A.Refused NoSuchField) → IsNot k m → r ≡ set_record s m
+  other k h e o = e ∙ lacking s m (elsewhere k (kind_in m) (field_in s) h (other_kind k m o))
 
   -- a number is too large
   pub refused_large : {w : Message} → r ≡ edited w (A.Refused NumberTooLarge) → m ≡ w → lacks (layout (kind_in w)).fields s ≡ false → is_too_large (layout (kind_in w)).fields s ≡ true → r ≡ set_record s m
@@ -93,14 +82,11 @@ module _ (s : Setting) {m : Message} {r : Edited} where
   set_done e q l t z = e ∙ made s m (rw q l) (rw q t) (rw q z)
 
 -- the version, where the record is neither a discovery nor an endpoint info
-abbrev unversioned : List ℕ
-unversioned = 2 ∷ 3 ∷ 4 ∷ 5 ∷ 6 ∷ []
-
-pub no_version : (a b : Number) (n : ℕ) (m : Message) → none (slots_of (Field.number b) (layout K.EndpointInfo).fields) ≡ false → OneOf unversioned (tag_of the_type m) → edited m (A.Refused NoSuchField) ≡ set_record (Setting.number (pick (eqb (layout (kind_in m)).status 0) a b) n) m
+pub no_version : (a b : Number) (n : ℕ) (m : Message) → none (slots_of (Field.number b) (layout K.EndpointInfo).fields) ≡ false → IsNot K.EndpointDiscovery m → IsNot K.EndpointInfo m → edited m (A.Refused NoSuchField) ≡ set_record (Setting.number (pick (eqb (layout (kind_in m)).status 0) a b) n) m
 unfolding table
-no_version a b n m h o =
-    let d : eqb (layout (kind_in m)).status 0 ≡ false = ne_eqb _ 0 (λ e. other_kind unversioned m K.EndpointDiscovery o tt (one_status (kind_in m) K.EndpointDiscovery e)) in
-    rw d (lacking _ m (elsewhere K.EndpointInfo (kind_in m) (Field.number b) h (other_kind unversioned m K.EndpointInfo o tt)))
+no_version a b n m h d i =
+    let e : eqb (layout (kind_in m)).status 0 ≡ false = ne_eqb _ 0 (λ e. other_kind K.EndpointDiscovery m d (one_status (kind_in m) K.EndpointDiscovery e)) in
+    rw e (lacking _ m (elsewhere K.EndpointInfo (kind_in m) (Field.number b) h (other_kind K.EndpointInfo m i)))
 
 -- ---- the test of a value, as it computes at a field
 -- a number of which l is the largest, and the test of those after it

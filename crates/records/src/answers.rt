@@ -94,6 +94,7 @@ pub(crate) fn too_large(message: Message) -> Edited
 }
 
 // Two settings in a row: the record of the second, and the first refusal.
+#[tactic(auto, unfolding(crate::specs::Settings::followed))]
 pub(crate) fn then(first: Edited, next: Edited) -> Edited
     ensures { result ≡ followed first next }
 {

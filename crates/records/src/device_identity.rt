@@ -25,6 +25,7 @@ pub struct DeviceIdentity {
 }
 
 // Whether a number is above 127. A caller with three numbers passes 0 as the fourth.
+#[tactic(auto, unfolding(crate::specs::Settings::septets))]
 fn any_above_127(a: u32, b: u32, c: u32, d: u32) -> bool
     ensures { result ≡ not (septets (a ∷ b ∷ c ∷ d ∷ [])) }
 {

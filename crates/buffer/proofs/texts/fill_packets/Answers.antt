@@ -1,0 +1,19 @@
+-- `texts::fill_packets` meets its contract, by the laws of `Turns`, turn by turn.
+use Prim.Native.Nat.{◌≤◌, ◌-◌, ◌*◌}
+use native.Mathlib.Omega.{arith}
+use Rattle.text.specs.Written.{word_new}
+use Rattle.buffer.specs.Acts.{formatted}
+use Rattle.fields.proofs.Filled.{Filled, none_filled, all_filled}
+use Rattle.buffer.proofs.Turns.{text_more}
+use borrow.Author.Rules.{rules}
+use Rattle.buffer.proofs.texts.fill_packets.Goals as goal
+
+pub loop-p-init : goal.loop-p-init
+loop-p-init c = (omega arith, none_filled _ _)
+
+pub loop-p-preserved : goal.loop-p-preserved
+loop-p-preserved c =
+    let s = c in
+    let l = c.loop-p in
+    let t = c.loop-p-test.true in
+    (omega (arith, t), rw c.fill_any_packet.ensures (text_more _ _ _ _ _ l.invariant.1 (omega (arith, t, s.requires.2)) (omega (arith, t, s.requires.3))))

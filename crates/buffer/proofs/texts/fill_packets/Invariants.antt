@@ -1,0 +1,15 @@
+-- `texts::fill_packets` meets its contract, by the laws of `Turns`, turn by turn.
+use Prim.Native.Nat.{◌≤◌, ◌-◌, ◌*◌}
+use native.Mathlib.Omega.{arith}
+use Rattle.text.specs.Written.{word_new}
+use Rattle.buffer.specs.Acts.{formatted}
+use Rattle.fields.proofs.Filled.{Filled, none_filled, all_filled}
+use Rattle.buffer.proofs.Turns.{text_more}
+use borrow.Author.Rules.{rules}
+use Rattle.buffer.proofs.texts.fill_packets.Given as goal
+
+abbrev pub invariant-loop-p : goal.invariant-loop-p
+invariant-loop-p l = (l.p ≤ l.end) × Filled (l.p * 4) (word_new l.text (formatted l.head) (14 - l.offset) l.packets.0) l.initial.words l.words
+
+abbrev pub decreases-loop-p : goal.decreases-loop-p
+decreases-loop-p l = l.end - l.p

@@ -1,0 +1,11 @@
+-- `texts::four_bytes` meets its contract, by the laws of `BigEndian`.
+use Prim.Native.Nat.{ℕ, ◌+◌, ◌≤◌}
+use mathlib.Core.Path.{◌≡◌, ◌∙◌}
+use native.Mathlib.Omega.{arith}
+use lib.ListN.{get_or, get_or-eq_default}
+use Rattle.text.proofs.BigEndian.{big_endian_in}
+use borrow.Author.Rules.{rules}
+use Rattle.buffer.proofs.texts.four_bytes.Goals as goal
+
+pub returns-then-i-text : goal.returns-then-i-text
+returns-then-i-text c = c.big_endian.ensures ∙ big_endian_in _ _ c.if-i-text.true

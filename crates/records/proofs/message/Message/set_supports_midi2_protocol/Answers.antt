@@ -1,0 +1,13 @@
+-- Setting `supports_midi2_protocol` on a record.
+use borrow.Author.Rules.{rules}
+use Rattle.kinds.specs.declared.kind.Kind.TheVariants as K
+use Rattle.records.proofs.Methods.{table, other, flag_done, refl, bit_flag}
+use Rattle.records.proofs.message.Message.set_supports_midi2_protocol.Goals as goal
+
+pub returns-in_default : goal.returns-in_default
+unfolding table
+returns-in_default c = other _ K.EndpointInfo refl c.no_such_field.ensures c.in_default.not-EndpointInfo
+
+pub returns : goal.returns
+unfolding table
+returns c = flag_done _ _ c.done.ensures c.in-EndpointInfo.is refl refl (simp bit_flag)
