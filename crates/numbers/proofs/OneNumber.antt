@@ -37,19 +37,15 @@ use Rattle.numbers.specs.FromNumbers.{choices_named, trimmed}
 use Rattle.numbers.specs.SetOne.{with_number}
 use Rattle.numbers.proofs.Accepted.{computed as valued}
 
--- ---- numbers that name no choice
--- every kind but a block info, by its place among the kinds
-abbrev pub but_block : List ℕ
-but_block = 0 ∷ 1 ∷ 2 ∷ 3 ∷ 4 ∷ 6 ∷ []
-
-pub choiceless : (k : Kind) (c : Numbers) → OneOf but_block (tag_of the_type k) → true ≡ choices_named k c
+-- numbers of any kind but a function block info name no port and no direction
+pub choiceless : (k : Kind) (c : Numbers) → (k ≡ K.FunctionBlockInfo → ⊥) → true ≡ choices_named k c
 unfolding valued
 choiceless K.EndpointDiscovery c o = refl
 choiceless K.EndpointInfo c o = refl
 choiceless K.DeviceIdentity c o = refl
 choiceless K.EndpointName c o = refl
 choiceless K.ProductInstanceId c o = refl
-choiceless K.FunctionBlockInfo c o = absurd (miss but_block 5 tt o)
+choiceless K.FunctionBlockInfo c o = absurd (o refl)
 choiceless K.FunctionBlockName c o = refl
 
 -- ---- the setting of one number

@@ -39,6 +39,7 @@ fn pair_slots(c: Numbers) -> [u32; 11]
 }
 
 // A kind with more slots than numbers has pairs. 0 past the kind's last slot.
+#[tactic(auto, unfolding(crate::specs::FromNumbers::slot_numbers))]
 fn slot_numbers(kind: Kind, c: Numbers) -> [u32; 11]
     ensures { result ≡ slot_numbers kind c }
 {
@@ -67,6 +68,7 @@ fn are_within(numbers: &[u32], limits: &[u32]) -> bool
 }
 
 // Whether each number is at most its field's largest. The limits are constants, so that the compiler takes the loop apart.
+#[tactic(auto, unfolding(crate::specs::FromNumbers::within, laws::specs::Lists::map, kinds::specs::Layout::layout))]
 pub fn numbers_in_range(kind: Kind, c: Numbers) -> bool
     ensures { result ≡ fits (layout kind).fields (parts (values_from kind c)) }
 {

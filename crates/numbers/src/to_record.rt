@@ -129,6 +129,7 @@ fn choices_named(kind: Kind, c: Numbers) -> bool
 }
 
 // Whether numbers of a kind's status are a record: each at most its field's largest, and choices that have a name.
+#[tactic(auto, unfolding(laws::specs::Pick::both))]
 pub(crate) fn is_record(kind: Kind, c: Numbers) -> bool
     ensures { result ≡ is_record kind c }
 {

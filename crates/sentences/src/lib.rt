@@ -22,6 +22,7 @@ fn put_string(out: &mut [u8], text: &[u8]) -> usize
 }
 
 // Writes the sentence of a refusal's number; no text where no refusal has the number.
+#[tactic(auto, unfolding(crate::specs::Sentences::sentences))]
 pub fn refusal_text(number: u32, out: &mut [u8]) -> usize
     ensures answer { result ≡ length (refusal_sentence number) }
     ensures bytes { out.new ≡ as_string (refusal_sentence number) out.old }
