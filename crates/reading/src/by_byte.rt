@@ -6,6 +6,7 @@ use crate::heads::status_of;
 use text::{Stepped, TextPlace};
 
 // 1 where the first word's status is 0x12, else 0.
+#[tactic(auto, unfolding(standard::specs::Place::offset_here, kinds::specs::Layout::layout))]
 fn text_offset(words: &[u32]) -> usize
     ensures { result ≡ offset_here words.now }
 {

@@ -82,12 +82,14 @@ pub(crate) fn device_identity(words: &[u32]) -> Message
     })
 }
 
+#[tactic(auto, unfolding(records::specs::Records::record_of))]
 pub(crate) fn endpoint_name(words: &[u32]) -> Message
     ensures { result ≡ message_at K.EndpointName words.now }
 {
     Message::EndpointName(packets_of(words))
 }
 
+#[tactic(auto, unfolding(records::specs::Records::record_of))]
 pub(crate) fn product_instance_id(words: &[u32]) -> Message
     ensures { result ≡ message_at K.ProductInstanceId words.now }
 {
@@ -114,6 +116,7 @@ pub(crate) fn function_block_info(words: &[u32]) -> Message
 }
 
 // Refusals 9 and 10, and else the message.
+#[tactic(auto, unfolding(standard::specs::Reading::read_body))]
 pub(crate) fn read_function_block_info(words: &[u32]) -> Read
     requires { 4 ≤ length words.now }
     ensures { result ≡ read_body K.FunctionBlockInfo words.now }

@@ -2,12 +2,14 @@
 ghost use Rattle.std.specs.Prelude.{◌≡◌};
 ghost use Rattle.standard.specs.Heads.{type_of, format_of, status_of};
 
+#[tactic(auto, unfolding(bit_ops::specs::Parts::part_in))]
 pub fn type_of(word: u32) -> u8
     ensures { result ≡ type_of word }
 {
     bit_ops::nibble(word, 0)
 }
 
+#[tactic(auto, unfolding(bit_ops::specs::Parts::part_in))]
 pub fn format_of(word: u32) -> u8
     ensures { result ≡ format_of word }
 {

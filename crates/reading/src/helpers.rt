@@ -51,6 +51,7 @@ pub fn text_packets(kind: Kind, words: &[u32]) -> PacketNumber
 }
 
 // Refusal 7 for a fixed kind in several packets, then 8 to 11, else the record.
+#[tactic(auto, unfolding(crate::specs::Framed::framed_kind))]
 fn read_framed_kind(kind: Kind, words: &[u32]) -> Read
     requires { 4 ≤ length words.now }
     ensures { result ≡ framed_kind kind words.now }
@@ -62,6 +63,7 @@ fn read_framed_kind(kind: Kind, words: &[u32]) -> Read
 }
 
 // For the walk: reads a message that it has framed, so no type, status or format is checked again. Refusal 5, 7 for a fixed kind in several packets, 8 to 11, else the record.
+#[tactic(auto, unfolding(crate::specs::Framed::framed_read))]
 pub fn read_framed(words: &[u32]) -> Read
     ensures { result ≡ framed_read words.now }
 {

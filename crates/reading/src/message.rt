@@ -29,6 +29,7 @@ pub(crate) fn most_packets(kind: Kind) -> PacketNumber
 }
 
 // Refusals 9, 10 and 11, else the message. `&words[0..]` makes the compiler pass the slice in registers.
+#[tactic(auto, unfolding(kinds::specs::Layout::layout, slots::specs::Slots::those, kinds::specs::Fields::same, kinds::specs::Fields::decided, laws::specs::Pick::both))]
 fn read_body(kind: Kind, words: &[u32]) -> Read
     requires { 4 ≤ length words.now }
     ensures { result ≡ read_body kind words.now }
@@ -60,6 +61,7 @@ fn read_body(kind: Kind, words: &[u32]) -> Read
 }
 
 // Refusals 8 to 11, else the message. If text starts later than octet 2, each packet has a field.
+#[tactic(auto, unfolding(crate::specs::Bodies::fields_read))]
 pub(crate) fn read_fields(kind: Kind, words: &[u32]) -> Read
     requires { (4 ≤ length words.now) × (packets_of words.now ≤ most_of kind) }
     ensures { result ≡ fields_read kind words.now }
@@ -75,6 +77,7 @@ pub(crate) fn read_fields(kind: Kind, words: &[u32]) -> Read
 }
 
 // Refusals 6 to 11, else the message.
+#[tactic(auto, unfolding(standard::specs::Reading::read_kind, crate::specs::Rules::breaks_of, crate::specs::Bodies::fields_read))]
 fn read_kind(kind: Kind, words: &[u32]) -> Read
     requires { 4 ≤ length words.now }
     ensures { result ≡ read_kind kind words.now }
@@ -109,6 +112,7 @@ fn heads_right(kind: Kind, words: &[u32], n: usize) -> bool
 }
 
 // Refusals 4 to 11, one rule after the other, else the message.
+#[tactic(auto, unfolding(crate::specs::Bodies::rules_read, crate::specs::Rules::breaks_of))]
 fn read_rules(words: &[u32]) -> Read
     requires { 4 ≤ length words.now }
     ensures { result ≡ rules_read words.now }
@@ -124,6 +128,7 @@ fn read_rules(words: &[u32]) -> Read
 }
 
 // Reads one message. Fast path: if one pass finds every head right, skip refusals 4 to 8.
+#[tactic(auto, unfolding(standard::specs::Reading::read_of))]
 pub fn read(words: &[u32]) -> Read
     ensures { result ≡ read_of words.now }
 {

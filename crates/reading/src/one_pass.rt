@@ -8,6 +8,7 @@ use counts::PacketNumber;
 use text::packets::{due_format, head_at, packets_of};
 
 // The low bits of a packet's first word that may be text.
+#[tactic(auto, unfolding(crate::specs::OnePass::text_bits))]
 fn text_bits(offset: usize) -> u32
     ensures value { result ≡ text_bits offset }
     ensures small { result < 32 }
@@ -20,6 +21,7 @@ fn text_bits(offset: usize) -> u32
 }
 
 // The bits of a first word above its text, with the format set to 0.
+#[tactic(auto, unfolding(crate::specs::OnePass::head_bits, bit_ops::specs::Parts::put_part))]
 fn head_bits(word: u32, offset: usize) -> u32
     ensures { result ≡ head_bits word offset }
 {
@@ -27,6 +29,7 @@ fn head_bits(word: u32, offset: usize) -> u32
 }
 
 // Whether packet p is there, with a head like the first except for its format.
+#[tactic(auto, unfolding(crate::specs::OnePass::like_first))]
 fn like_first(words: &[u32], offset: usize, p: PacketNumber) -> bool
     ensures { result ≡ like_first words.now offset p.0 }
 {
@@ -37,6 +40,7 @@ fn like_first(words: &[u32], offset: usize, p: PacketNumber) -> bool
 }
 
 // The number of packets if packet p, with this format, is the last one; else 0.
+#[tactic(auto, unfolding(crate::specs::OnePass::ends_at))]
 fn ends_at(format: u8, p: PacketNumber) -> PacketNumber
     requires { p.0 < 64 }
     ensures { result ≡ packet (ends_at «format» p.0) }

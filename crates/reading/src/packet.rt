@@ -24,6 +24,7 @@ fn word_or_zero(words: &[u32], i: usize) -> u32
     0
 }
 
+#[tactic(auto, unfolding(standard::specs::Packet::packet_of))]
 pub fn packet(words: &[u32]) -> PacketRead
     ensures { result ≡ packet_of words.now }
 {
@@ -52,6 +53,7 @@ pub fn format(packet: Packet) -> Format
 }
 
 // Whether a packet with this first word ends a message.
+#[tactic(auto, unfolding(crate::specs::Rules::ends))]
 fn ends_message(word: u32) -> bool
     ensures { result ≡ ends word }
 {
@@ -63,6 +65,7 @@ fn ends_message(word: u32) -> bool
 }
 
 // The first packet that ends a message; the packet count where none does.
+#[tactic(auto, unfolding(laws::specs::First::first, crate::specs::Rules::ends))]
 fn first_end(words: &[u32]) -> PacketNumber
     ensures { result ≡ packet (first (ends_message words.now) (packets_of words.now)) }
 {
@@ -78,6 +81,7 @@ fn first_end(words: &[u32]) -> PacketNumber
 }
 
 // The words of the message that a slice starts with, by the formats alone.
+#[tactic(auto, unfolding(standard::specs::Packet::message_size))]
 pub fn message_size(words: &[u32]) -> MessageSize
     ensures { result ≡ message_size words.now }
 {

@@ -17,6 +17,7 @@ pub(crate) enum Rule {
 }
 
 // Whether packet `p` of `n`, whose first word is `word`, breaks a rule. `first` is the first word of packet 0.
+#[tactic(auto, unfolding(crate::specs::Rules::breaks_of, bit_ops::specs::Parts::part_in))]
 fn breaks(rule: Rule, first: u32, word: u32, p: PacketNumber, n: PacketNumber) -> bool
     ensures { result ≡ breaks_of rule first word p.0 n.0 }
 {
@@ -29,6 +30,7 @@ fn breaks(rule: Rule, first: u32, word: u32, p: PacketNumber, n: PacketNumber) -
 }
 
 // The first packet that breaks a rule; the packet count where none does.
+#[tactic(auto, unfolding(laws::specs::First::first))]
 pub(crate) fn first_broken(rule: Rule, words: &[u32]) -> PacketNumber
     ensures { result.0 ≡ first (broken_by rule words.now) (packets_of words.now) }
 {
