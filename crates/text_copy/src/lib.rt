@@ -53,6 +53,7 @@ fn copy_packets(words: &[u32], offset: usize, out: &mut [u8]) -> TextCopy
 }
 
 // Copies the text of words as those of a kind; whether they are a message is not looked at.
+#[tactic(auto, unfolding(kinds::specs::Layout::layout))]
 pub fn copy_kind(kind: Kind, words: &[u32], out: &mut [u8]) -> TextCopy
     ensures answer { result ≡ (copy_kind kind words.now out.old).answer }
     ensures bytes { out.new ≡ (copy_kind kind words.now out.old).bytes }
@@ -69,6 +70,7 @@ pub fn copy_kind(kind: Kind, words: &[u32], out: &mut [u8]) -> TextCopy
 }
 
 // Reads the words as one message and copies its text to the start of the buffer.
+#[tactic(auto, unfolding(crate::specs::Copied::copy_on))]
 pub fn copy_text(words: &[u32], out: &mut [u8]) -> TextCopy
     ensures answer { result ≡ (copy_on words.now out.old).answer }
     ensures bytes { out.new ≡ (copy_on words.now out.old).bytes }

@@ -9,6 +9,7 @@ use counts::{PacketNumber, first_word};
 #[derive(Clone, Copy)]
 pub(crate) struct Octets(pub u8, pub u8, pub u8, pub u8);
 
+#[tactic(auto, unfolding(text::specs::Octets::octet_of))]
 pub(crate) fn octets_of(w: u32) -> Octets
     ensures { result ≡ four_of w }
 {
@@ -21,6 +22,7 @@ pub(crate) fn octets_of(w: u32) -> Octets
 }
 
 // A packet's first word with zeros in place of what is not text.
+#[tactic(auto, unfolding(crate::specs::Words::first_text))]
 fn first_text(w: u32, offset: usize) -> u32
     ensures { result ≡ first_text w offset }
 {
@@ -48,6 +50,7 @@ pub(crate) fn text_words(words: &[u32], packet: PacketNumber, offset: usize) -> 
 }
 
 // Whether no octet of a word is zero.
+#[tactic(auto, unfolding(text::specs::Octets::octet_of))]
 pub(crate) fn no_zero(w: u32) -> bool
     ensures { result ≡ true → nonzero (octets_of w) ≡ octets_of w }
 {

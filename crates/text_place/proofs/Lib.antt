@@ -1,5 +1,2 @@
-pub mod Data
-pub mod Thin
-pub mod Walk
 pub mod Lent
 pub mod Examples

@@ -18,6 +18,7 @@ use standard::{Framed, Step};
 const SIZES: [u8; 16] = [1, 1, 1, 2, 2, 4, 1, 1, 2, 2, 2, 3, 3, 4, 4, 4];
 
 // The number of words in a message of this type, as a plain number: with the struct LLVM writes every answer of the walk in pieces, and a walk of messages takes a tenth longer.
+#[tactic(auto, unfolding(standard::specs::Walk::size_of))]
 fn plain_size(ump_type: u32) -> usize
     ensures { result ≡ size_of ump_type }
 {
@@ -36,6 +37,7 @@ pub fn size_of(ump_type: u32) -> WordNumber
 }
 
 // What a packet's format means: a first packet must be Complete or Start, a later one Continue or End.
+#[tactic(auto, unfolding(standard::specs::Walk::step_of))]
 fn step_of(p: usize, format: u8) -> Step
     ensures { result ≡ step_of p format }
 {
@@ -55,6 +57,7 @@ fn step_of(p: usize, format: u8) -> Step
 
 // Counts the packets of the message at `pos` and checks their heads. If 64 packets do not end it there are too many, even with no words left.
 // `at` is the first word of packet p: four words on in each turn, so that the loop has no product.
+#[tactic(auto, unfolding(standard::specs::Walk::frame_of))]
 fn frame(words: &[u32], pos: usize) -> Framed
     requires { pos < length words.now }
     ensures { result ≡ frame_of words.now pos }
@@ -90,6 +93,7 @@ fn frame(words: &[u32], pos: usize) -> Framed
 }
 
 // A message of another type, or refusal 1 if some of its words are missing.
+#[tactic(auto, unfolding(standard::specs::Walk::other_of))]
 fn walk_other(ump_type: u32, words: &[u32], pos: usize) -> Walked
     requires { pos < length words.now }
     ensures { result ≡ other_of ump_type words.now pos }
@@ -125,6 +129,7 @@ fn walk_read(read: Read, next: usize) -> Walked
 }
 
 // A stream message: framed, then read without checking its heads again. After refusal 1 the next position is the length, after another framing refusal four words on.
+#[tactic(auto, unfolding(standard::specs::Walk::framed_of))]
 fn walk_framed(words: &[u32], pos: usize) -> Walked
     requires { pos < length words.now }
     ensures { result ≡ framed_of (frame_of words.now pos) words.now pos }
@@ -147,6 +152,7 @@ fn walk_framed(words: &[u32], pos: usize) -> Walked
 }
 
 // What stands at a word position of a stream, and the next position.
+#[tactic(auto, unfolding(standard::specs::Walk::walk_of))]
 pub fn walk(words: &[u32], position: WordNumber) -> Walked
     ensures { result ≡ walk_of words.now position.0 }
 {

@@ -1,0 +1,16 @@
+-- `copy_packets` meets its contract: full packets fit, the text fits, or nothing is put.
+use Prim.Native.Nat.{◌-◌, ◌/◌}
+use mathlib.Core.Path.{ap}
+use native.Mathlib.Omega.{arith}
+use lib.ListN.{length}
+use Rattle.counts.specs.declared.PacketNumber.{PacketNumber}
+use Rattle.text.specs.Bytes.{text_of}
+use Rattle.text_copy.proofs.Copies.{text_most, no_room}
+use borrow.Author.Rules.{rules}
+use Rattle.text_copy.proofs.copy_packets.Goals as goal
+
+pub put_whole-requires : goal.put_whole-requires
+put_whole-requires c =
+    let start = c in
+    let n = ap (λ (n : PacketNumber). n.0) c.packets_of.ensures in
+    (start.requires, omega (arith, n, c.if-packets_of-out.true, text_most start.args.words.now start.args.offset (length start.args.words.now / 4)))

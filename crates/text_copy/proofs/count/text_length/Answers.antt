@@ -1,0 +1,33 @@
+-- `count::text_length` meets its contract. Invariant: the count, and the length of the text from packet p on, are the text's length.
+use Prim.Native.Nat.{◌+◌, ◌-◌, ◌*◌, ◌/◌, ◌≤◌}
+use mathlib.Core.Path.{◌≡◌, ap, ◌∙◌}
+use native.Mathlib.Omega.{arith}
+use lib.ListN.{length}
+use Rattle.counts.specs.declared.PacketNumber.{PacketNumber}
+use Rattle.text.specs.Bytes.{text_of}
+use Rattle.text_copy.specs.Words.{packet_text}
+use Rattle.text_copy.specs.declared.words.TextWords.{TextWords}
+use Rattle.text_copy.proofs.Packets.{left, left_all, length_more, left_none}
+use borrow.Author.Rules.{rules}
+use Rattle.text_copy.proofs.count.text_length.Goals as goal
+
+pub loop-p-init : goal.loop-p-init
+loop-p-init c =
+    let a = c.args in
+    (omega arith, ap (λ (n : PacketNumber). n.0) c.packets_of-n.ensures, omega arith, omega (arith, ap length (left_all a.words.now a.offset)))
+
+pub loop-p-preserved : goal.loop-p-preserved
+loop-p-preserved c =
+    let l = c in
+    let start = l in
+    let r = c.packet_length-count.ensures in
+    let h = rw l.loop-p.invariant.1 at c.loop-p-test.true in
+    let e = r.value ∙ ap (λ (t : TextWords). length (packet_text t)) c.text_words.ensures in
+    let m = length_more start.args.words.now start.args.offset l.loop-p.p start.requires h in
+    (search rules, l.loop-p.invariant.1, omega (arith, r.small, l.loop-p.invariant.2), omega (arith, e, m, l.loop-p.invariant.3))
+
+pub returns : goal.returns
+returns c =
+    let l = c in
+    let start = l in
+    omega (arith, l.loop-p.invariant.3, ap length (left_none start.args.words.now start.args.offset l.loop-p.p (rw l.loop-p.invariant.1 at c.loop-p-test.false)))

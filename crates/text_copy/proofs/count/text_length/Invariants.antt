@@ -1,0 +1,18 @@
+-- `count::text_length` meets its contract. Invariant: the count, and the length of the text from packet p on, are the text's length.
+use Prim.Native.Nat.{◌+◌, ◌-◌, ◌*◌, ◌/◌, ◌≤◌}
+use mathlib.Core.Path.{◌≡◌, ap, ◌∙◌}
+use native.Mathlib.Omega.{arith}
+use lib.ListN.{length}
+use Rattle.counts.specs.declared.PacketNumber.{PacketNumber}
+use Rattle.text.specs.Bytes.{text_of}
+use Rattle.text_copy.specs.Words.{packet_text}
+use Rattle.text_copy.specs.declared.words.TextWords.{TextWords}
+use Rattle.text_copy.proofs.Packets.{left, left_all, length_more, left_none}
+use borrow.Author.Rules.{rules}
+use Rattle.text_copy.proofs.count.text_length.Given as goal
+
+abbrev pub invariant-loop-p : goal.invariant-loop-p
+invariant-loop-p l = (l.p ≤ l.n) × (l.n ≡ length l.words / 4) × (l.count ≤ l.p * 16) × (l.count + length (left l.words l.offset l.p) ≡ length (text_of l.words (14 - l.offset) (length l.words / 4)))
+
+abbrev pub decreases-loop-p : goal.decreases-loop-p
+decreases-loop-p l = l.n - l.p

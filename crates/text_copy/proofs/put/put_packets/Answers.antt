@@ -1,0 +1,32 @@
+-- `put::put_packets` meets its contract. Invariant: writing the text of the packets from p on gives the whole text written.
+use Prim.Native.Nat.{◌-◌, ◌/◌, ◌≤◌}
+use mathlib.Core.Path.{◌≡◌, refl, ap, ◌∙◌}
+use native.Mathlib.Omega.{arith}
+use lib.ListN.{length}
+use Rattle.counts.specs.declared.PacketNumber.{PacketNumber}
+use Rattle.text.specs.Bytes.{text_of}
+use Rattle.ascii_lines.proofs.Page.{says, ToWrite, to_write_all, to_write_turn, to_write_none}
+use Rattle.text_copy.specs.Words.{packet_text}
+use Rattle.text_copy.proofs.Packets.{left, left_all, left_more, left_none}
+use borrow.Author.Rules.{rules}
+use Rattle.text_copy.proofs.put.put_packets.Goals as goal
+
+pub loop-p-init : goal.loop-p-init
+loop-p-init c =
+    let a = c.args in
+    (refl, omega arith, ap (λ (n : PacketNumber). n.0) c.packets_of-n.ensures, rw (left_all a.words.now a.offset) (to_write_all _ _ _))
+
+pub loop-p-preserved : goal.loop-p-preserved
+loop-p-preserved c =
+    let w = c.put_packet-at in
+    let t = c in
+    let l = t in
+    let start = l in
+    let h = rw l.loop-p.invariant.2 at t.loop-p-test.true in
+    (w.auto.out ∙ l.loop-p.invariant.0, search rules, l.loop-p.invariant.2, to_write_turn l.loop-p.invariant.3 (says w.ensures (ap packet_text t.text_words.ensures)) (left_more start.args.words.now start.args.offset l.loop-p.p start.requires h))
+
+pub returns : goal.returns
+returns c =
+    let l = c.loop-p in
+    let a = c.args in
+    to_write_none l.invariant.3 (left_none a.words.now a.offset l.p (rw l.invariant.2 at c.loop-p-test.false))
