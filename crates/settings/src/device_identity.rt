@@ -8,6 +8,7 @@ use kinds::kind::Kind;
 use records::answers::Answer;
 use table::names::{DEVICE_MANUFACTURER, SOFTWARE_VERSION};
 
+#[tactic(auto, unfolding(slots::specs::Slots::fits, fields::specs::Puts::put_ins, numbers::specs::BySlot::fit_from, numbers::specs::BySlot::put_from))]
 pub fn set_device_manufacturer(words: &mut [u32], a: u32, b: u32, c: u32) -> Answer
     ensures answer { result ≡ (set_on (Setting.device_manufacturer a b c) words.old).answer }
     ensures buffer { words.new ≡ (set_on (Setting.device_manufacturer a b c) words.old).words }
@@ -15,6 +16,7 @@ pub fn set_device_manufacturer(words: &mut [u32], a: u32, b: u32, c: u32) -> Ans
     set_slots(words, Kind::DeviceIdentity, DEVICE_MANUFACTURER, &[a, b, c])
 }
 
+#[tactic(auto, unfolding(slots::specs::Slots::fits, fields::specs::Puts::put_ins, numbers::specs::BySlot::fit_from, numbers::specs::BySlot::put_from))]
 pub fn set_software_version(words: &mut [u32], a: u32, b: u32, c: u32, d: u32) -> Answer
     ensures answer { result ≡ (set_on (Setting.software_version a b c d) words.old).answer }
     ensures buffer { words.new ≡ (set_on (Setting.software_version a b c d) words.old).words }

@@ -17,6 +17,7 @@ pub enum Target {
 }
 
 // What a setting of the kind with this status finds in a message.
+#[tactic(auto, unfolding(crate::specs::Target::own_in))]
 fn own_message(message: Message, status: u32) -> Target
     ensures { result ≡ own_in status message }
 {

@@ -7,11 +7,8 @@ use Rattle.numbers.specs.BySlot.{fit_from, put_from}
 use Rattle.settings.proofs.Slots.{facts, set_slots}
 use borrow.Author.Rules.{rules}
 use Rattle.standard.proofs.Outcome.{said_as}
-use Rattle.settings.proofs.device_identity.set_device_manufacturer.Statement.{statement}
-use Rattle.settings.proofs.device_identity.set_device_manufacturer.Tie as tie
+use Rattle.settings.proofs.device_identity.set_device_manufacturer.Goals as goal
 
-pub set_device_manufacturer_spec : {M : Type 1} → statement M
+pub returns : goal.returns
 unfolding facts fits put_ins fit_from put_from
-set_device_manufacturer_spec =
-    tie.close (tie.spec (λ c. search rules) (λ c κs. search rules) (λ c. search rules)
-    (λ c. said_as (set_slots K.DeviceIdentity _ _ refl _ _ _ refl refl) c.before.before.set_slots.ensures))
+returns c = let e = c.set_slots.ensures in let r = said_as (set_slots K.DeviceIdentity _ _ refl _ _ _ refl refl) (e.answer, e.buffer) in record { answer = r.0; buffer = r.1 }
