@@ -41,4 +41,4 @@ product_shown ws q h = rw (h, q)
 
 pub block_name_shown : {m : Message} {b : ℕ} {n : PacketNumber} (ws : List ℕ) → m ≡ M.FunctionBlockName b n → length ws / 4 ≡ packets_in m → ascii " function-block-name" ++ numbers (take 2 (ten_of m)) ++ (ascii " " ++ hex_or_dash (text_of ws 13 (length ws / 4))) ≡ message_shown m ws
 unfolding each layout kind_name first_part fields_in lookup same decided
-block_name_shown ws q h = rw (h, q)
+block_name_shown ws q h = rw (h, q, q)

@@ -50,6 +50,7 @@ fn put_texts(
 }
 
 // `words` holds this message and nothing else.
+#[tactic(auto, unfolding(laws::specs::Lists::each, kinds::specs::Layout::layout, records::specs::Records::first_part, records::specs::Records::fields_in, records::specs::Records::lookup, kinds::specs::Fields::same, kinds::specs::Fields::decided, sentences::specs::Sentences::kind_name))]
 pub(crate) fn put_message(out: &mut [u8], at: usize, message: Message, words: &[u32]) -> usize
     requires { length words.now / 4 ≡ packets_in message }
     ensures { Wrote at out.old (message_shown message words.now) result out.new }

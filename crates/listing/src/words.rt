@@ -31,6 +31,7 @@ fn least(a: usize, b: usize) -> usize
 }
 
 // Reads words into the lent slice until either ends; returns how many.
+#[tactic(auto, unfolding(laws::specs::Lists::up_to))]
 pub fn read_words(bytes: &[u8], words: &mut [u32]) -> usize
     ensures value { result ≡ min (length bytes.now / 4) (length words.old) }
     ensures words_after { words.new ≡ up_to result (word_at bytes.now) words.old }

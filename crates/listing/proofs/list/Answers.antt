@@ -1,0 +1,15 @@
+-- `list` meets its contract, by the laws of `Room` and `Page` of lines.
+use mathlib.Core.Path.{sym, refl}
+use native.Mathlib.Omega.{arith}
+use lib.Seq.{length-take-le}
+use Rattle.ascii_lines.proofs.Page.{◌⨾◌, says}
+use Rattle.listing.proofs.Room.{listed, too_long, all_listed}
+use borrow.Author.Rules.{rules}
+use Rattle.listing.proofs.list.Goals as goal
+
+pub returns-then-bytes-gt32768 : goal.returns-then-bytes-gt32768
+returns-then-bytes-gt32768 c = listed _ _ _ _ (says c.put_text.ensures (too_long _ c.if-bytes-gt32768.true))
+
+pub returns : goal.returns
+returns c = let r = c.read_words-n.ensures in
+    listed _ _ _ _ (says (c.put_lines-p.ensures ⨾ c.put_end.ensures) (all_listed _ _ _ _ c.if-bytes-gt32768.false refl r.value r.words_after))

@@ -1,0 +1,14 @@
+-- `words::read_words` meets its contract, by the laws of `Lists` of laws, turn by turn.
+use Prim.Native.Nat.{◌≤◌, ◌-◌, ◌/◌, min}
+use mathlib.Core.Path.{◌≡◌, refl, ◌∙◌}
+use native.Mathlib.Omega.{arith}
+use lib.ListN.{length, length-set}
+use Rattle.laws.specs.Lists.{up_to}
+use Rattle.laws.proofs.Lists.{up_to_more}
+use Rattle.listing.specs.Listing.{word_at}
+use borrow.Author.Rules.{rules}
+use Rattle.listing.proofs.words.read_words.Goals as goal
+
+pub loop-i-preserved : goal.loop-i-preserved
+loop-i-preserved c = let l = c.loop-i.invariant in
+    (l.0, omega arith, simp length-set l.2, rw (l.3, c.word_at.ensures) (up_to_more _ _ _ (omega arith)))
