@@ -33,6 +33,7 @@ pub fn set_function_block(words: &mut [u32], number: u32) -> Answer
 }
 
 // The head of each packet: the block number is the one that the first packet has.
+#[tactic(auto, unfolding(kinds::specs::Layout::layout, crate::specs::Texts::block_head))]
 fn block_head(words: &[u32]) -> u32
     ensures { result ≡ block_head words.now }
 {

@@ -14,6 +14,7 @@ use table::rows::row_of;
 use text_check::helpers::ascii_packet;
 
 // Whether the first packet has the type, format and status of this head, and its text is ASCII.
+#[tactic(auto, unfolding(crate::specs::Texts::single_ascii))]
 fn is_single_ascii_packet(words: &[u32], head: u32) -> bool
     ensures { result ≡ single_ascii words.now head }
 {

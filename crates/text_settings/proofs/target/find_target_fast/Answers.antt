@@ -1,0 +1,10 @@
+-- `target::find_target_fast` meets its contract: a single packet is what the walk finds.
+use mathlib.Core.Path.{sym, ◌∙◌}
+use Rattle.text_settings.proofs.Singles.{single_target}
+use borrow.Author.Rules.{rules}
+use Rattle.text_settings.proofs.target.find_target_fast.Goals as goal
+
+pub returns-then-is_single_ascii_packet : goal.returns-then-is_single_ascii_packet
+returns-then-is_single_ascii_packet c =
+    let start = c in
+    single_target start.args.kind start.args.words.now start.args.head start.requires (sym c.is_single_ascii_packet.ensures ∙ c.if-is_single_ascii_packet.true)
