@@ -6,11 +6,11 @@ mod chain;
 
 use chain::{case_eleven, every, own};
 use kinds::refusal::refusal_number;
-use libc::STDOUT_FILENO;
 use numbers::of_record::numbers_of;
 use reading::message::read;
 use records::answers::{Answer, Edited, Read};
 use records::message::Message;
+use std::io;
 use writing::fresh::fresh;
 use writing::write::write;
 
@@ -133,10 +133,11 @@ fn put_all(out: &mut [u8]) -> usize {
     p
 }
 
-fn main() {
+fn main(rt: HostRuntime) -> io::Result<()> {
     let mut out = [0u8; 32768];
     let r = put_all(&mut out);
     if r <= 32768 {
-        io::write_all(STDOUT_FILENO, &out[0..r]);
+        rt.write_all(&out[0..r])?;
     }
+    Ok(())
 }

@@ -2,62 +2,48 @@
 // A program has no exit status: what goes wrong is told on standard error.
 #![tactic(auto)]
 
-ghost use Rattle.io.specs.Counts.{IsPrefixLen};
+ghost use Rattle.whole_input.specs.Counts.{IsPrefixLen};
 
-use libc::{STDERR_FILENO, STDIN_FILENO, STDOUT_FILENO};
+use std::env::{Env, FillError};
+use std::io::Read;
+use whole_input::{Taken, read_full};
 
-// How many bytes were read, and whether a read failed after them.
-#[derive(Clone, Copy)]
-struct Taken {
-    bytes: usize,
-    failed: bool,
-}
-
-// Reads until input is full, there is no more, or a read fails: io::read_full does not tell the last two apart.
-fn read_input(input: &mut [u8]) -> Taken
+// Reads until input is full, there is no more, or a read fails.
+fn read_input(stdin: &mut impl Read, input: &mut [u8]) -> Taken
     ensures { IsPrefixLen result.bytes input.new }
 {
-    let mut done: usize = 0;
-    while done < input.len() {
-        let got = libc::read(STDIN_FILENO, &mut input[done..]);
-        let n = io::count(got, &input[done..]);
-        if n == 0 {
-            return Taken {
-                bytes: done,
-                failed: got < 0,
-            };
-        }
-        done += n;
-    }
-    Taken {
-        bytes: done,
-        failed: false,
-    }
+    read_full(stdin, input)
 }
 
-fn list_input() {
+fn list_input(rt: &(impl Print + Eprint), stdin: &mut impl Read) {
     // One byte more than is listed, to see whether there is more.
     let mut input = [0u8; 32769];
-    let taken = read_input(&mut input);
+    let taken = read_input(stdin, &mut input);
     if taken.failed {
-        io::write_all(STDERR_FILENO, b"dump: the input could not be read\n");
+        let _ = rt.eprintln("dump: the input could not be read");
     }
     let n = taken.bytes;
     let mut out = [0u8; listing::LISTING_ROOM];
     let r = listing::list(&input[..n], &mut out);
-    if !io::write_all(STDOUT_FILENO, &out[..r]) {
-        io::write_all(STDERR_FILENO, b"dump: the output could not be written\n");
+    if rt.write_all(&out[..r]).is_err() {
+        let _ = rt.eprintln("dump: the output could not be written");
     }
 }
 
-fn main() {
+// Whether a word follows the program's name, an empty one too.
+fn has_words(env: &impl Env) -> bool {
+    let mut word = [0u8; 1];
+    match env.arg(1, &mut word) {
+        Err(FillError::NotPresent) => false,
+        _ => true,
+    }
+}
+
+fn main(rt: HostRuntime) {
     // Who asks for help or names a file is told how to use the program.
-    if os::arg_count() > 1 {
-        io::write_all(
-            STDERR_FILENO,
-            b"use: dump < CAPTURE (big-endian words, at most 32,768 bytes)\n",
-        );
+    if has_words(&rt) {
+        let _ = rt.eprintln("use: dump < CAPTURE (big-endian words, at most 32,768 bytes)");
         return;
     }
-    list_input();
+    list_input(&rt, &mut rt.stdin());
 }

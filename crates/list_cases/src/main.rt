@@ -5,7 +5,8 @@
 
 ghost use Rattle.std.specs.Prelude.{◌<◌};
 
-use libc::{STDIN_FILENO, STDOUT_FILENO};
+use std::io;
+use whole_input::read_full;
 
 fn wide(byte: u8) -> usize
     ensures { result < 256 }
@@ -14,31 +15,32 @@ fn wide(byte: u8) -> usize
 }
 
 // Prints the listing of each case.
-fn run(input: &[u8], out: &mut [u8]) {
+fn run(rt: &impl Print, input: &[u8], out: &mut [u8]) -> io::Result<()> {
     let mut i = 0;
     while i < input.len() {
         if input.len() - i < 4 {
-            return;
+            return Ok(());
         }
         let high = wide(input[i]) * 0x1000000 + wide(input[i + 1]) * 0x10000;
         let low = wide(input[i + 2]) * 0x100 + wide(input[i + 3]);
         let from = i + 4;
         let count = high + low;
         if input.len() - from < count {
-            return;
+            return Ok(());
         }
         let to = from + count;
         let r = listing::list(&input[from..to], out);
         if r <= out.len() {
-            io::write_all(STDOUT_FILENO, &out[0..r]);
+            rt.write_all(&out[0..r])?;
         }
         i = to;
     }
+    Ok(())
 }
 
-fn main() {
+fn main(rt: HostRuntime) -> io::Result<()> {
     let mut input = [0u8; 131072];
-    let n = io::read_full(STDIN_FILENO, &mut input);
+    let n = read_full(&mut rt.stdin(), &mut input).bytes;
     let mut out = [0u8; listing::LISTING_ROOM];
-    run(&input[..n], &mut out);
+    run(&rt, &input[..n], &mut out)
 }

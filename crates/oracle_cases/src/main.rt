@@ -7,9 +7,10 @@
 ghost use Rattle.std.specs.Prelude.{◌<◌};
 
 use kinds::refusal::Refusal;
-use libc::{STDIN_FILENO, STDOUT_FILENO};
 use records::answers::{Answer, Read};
+use std::io;
 use text_settings::{endpoint_name, function_block_name, product_instance_id};
+use whole_input::read_full;
 
 fn wide(byte: u8) -> usize
     ensures { result < 256 }
@@ -121,12 +122,13 @@ fn run(input: &[u8], out: &mut [u8]) -> usize {
     p
 }
 
-fn main() {
+fn main(rt: HostRuntime) -> io::Result<()> {
     let mut input = [0u8; 65536];
-    let n = io::read_full(STDIN_FILENO, &mut input);
+    let n = read_full(&mut rt.stdin(), &mut input).bytes;
     let mut out = [0u8; 65536];
     let r = run(&input[..n], &mut out);
     if r <= 65536 {
-        io::write_all(STDOUT_FILENO, &out[0..r]);
+        rt.write_all(&out[0..r])?;
     }
+    Ok(())
 }

@@ -8,9 +8,9 @@ mod run;
 mod tally;
 mod values;
 
-use libc::STDOUT_FILENO;
 use planted::plant_each;
 use run::{Plan, run};
+use std::io;
 use tally::add;
 use values::fill_pool;
 
@@ -114,12 +114,13 @@ fn put_all(out: &mut [u8], pool: &[u8]) -> usize {
     put_tally(out, c, b"all", &all)
 }
 
-fn main() {
+fn main(rt: HostRuntime) -> io::Result<()> {
     let mut pool = [0u8; 1000];
     fill_pool(&mut pool);
     let mut out = [0u8; 2048];
     let end = put_all(&mut out, &pool);
     if end <= 2048 {
-        io::write_all(STDOUT_FILENO, &out[0..end]);
+        rt.write_all(&out[0..end])?;
     }
+    Ok(())
 }

@@ -4,8 +4,7 @@ ghost use Rattle.standard.specs.Place.{next_byte};
 
 use text::{Stepped, TextPlace, TextStep};
 
-// The next byte and the place after it. The prover does not cover a local struct lent by `&mut`, so this proof is by hand, and loops
-// keep their place by value.
+// The next byte and the place after it: loops keep their place by value.
 fn lend(words: &[u32], place: TextPlace) -> Stepped
     ensures { result ≡ next_byte words.now place }
 {

@@ -9,7 +9,8 @@ ghost use Rattle.std.specs.Prelude.{◌<◌};
 mod lent;
 
 use lent::put_lent;
-use libc::{STDIN_FILENO, STDOUT_FILENO};
+use std::io;
+use whole_input::read_full;
 
 fn wide(byte: u8) -> usize
     ensures { result < 256 }
@@ -50,12 +51,13 @@ fn run(input: &[u8], out: &mut [u8]) -> usize {
     p
 }
 
-fn main() {
+fn main(rt: HostRuntime) -> io::Result<()> {
     let mut input = [0u8; 65536];
-    let n = io::read_full(STDIN_FILENO, &mut input);
+    let n = read_full(&mut rt.stdin(), &mut input).bytes;
     let mut out = [0u8; 65536];
     let r = run(&input[..n], &mut out);
     if r <= 65536 {
-        io::write_all(STDOUT_FILENO, &out[0..r]);
+        rt.write_all(&out[0..r])?;
     }
+    Ok(())
 }
