@@ -1,5 +1,5 @@
 // Lists the big-endian words of standard input: document 01's listing program.
-// A program has no exit status: what goes wrong is told on standard error.
+// It always ends with status 0: what goes wrong is told on standard error.
 #![tactic(auto)]
 
 ghost use Rattle.whole_input.specs.Counts.{IsPrefixLen};
