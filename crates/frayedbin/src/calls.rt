@@ -44,6 +44,7 @@ pub extern "C" fn frayedbin_read(words: &[u32]) -> RecordAnswer
 // Fast path: another type is answered from its size alone. Each kind returns by itself: its numbers go straight into the answer,
 // and the fast path saves fewer registers.
 #[unsafe(no_mangle)]
+#[tactic(auto, unfolding(laws::specs::Lists::each, kinds::specs::Layout::layout, records::specs::Records::first_part, records::specs::Records::fields_in, records::specs::Records::lookup, kinds::specs::Fields::same, kinds::specs::Fields::decided))]
 pub extern "C" fn frayedbin_walk(words: &[u32], position: usize) -> WalkAnswer
     ensures { result ≡ walk_crossed (walk_of words.now position) }
 {
@@ -85,6 +86,7 @@ pub extern "C" fn frayedbin_walk(words: &[u32], position: usize) -> WalkAnswer
 
 // A caller who gives a whole word in place of its type gets 0, not four.
 #[unsafe(no_mangle)]
+#[tactic(auto, unfolding(standard::specs::Walk::size_of))]
 pub extern "C" fn frayedbin_words_of_type(ump_type: u32) -> usize
     ensures { result ≡ words_of_type ump_type }
 {

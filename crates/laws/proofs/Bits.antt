@@ -6,7 +6,7 @@ use native.Mathlib.Omega.{arith}
 use native.Mathlib.Nat.{one-mul, mod-eq_of_lt, mul_assoc, add_comm, add-mul, mod-lt, mul_comm}
 use lib.Pow.{pow_pos, pow-lt, pow-add, shr_lt, shr-shr, field, mod-mod-pow, split}
 use lib.Arith.{digits_lt, digits_div, digits_mod}
-use Rattle.laws.specs.Bits.{field_of, put_field, word_of}
+use Rattle.laws.specs.Bits.{field_of, put_field}
 
 -- 1 << k in n bits
 pub one_shl : {k : ℕ} (n : ℕ) → k < n → 1 * 2 ^ k % 2 ^ n ≡ 2 ^ k

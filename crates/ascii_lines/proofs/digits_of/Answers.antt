@@ -1,9 +1,5 @@
 -- `digits_of` meets its contract. Invariant: the digits counted, and those of the rest, are one more than the number has.
-use Prim.Native.Nat.{◌+◌, ◌≤◌}
-use mathlib.Core.Path.{◌≡◌}
 use native.Mathlib.Omega.{arith}
-use lib.ListN.{length}
-use Rattle.ascii_lines.specs.Numbers.{decimal}
 use Rattle.ascii_lines.proofs.Room.{length_one, length_more, length_most}
 use Rattle.ascii_lines.proofs.digits_of.Goals as goal
 

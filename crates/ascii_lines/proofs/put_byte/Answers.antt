@@ -1,6 +1,5 @@
 -- `put_byte` meets its contract, by the laws of `Page`.
 use Rattle.ascii_lines.proofs.Page.{put_here, put_full}
-use borrow.Author.Rules.{rules}
 use Rattle.ascii_lines.proofs.put_byte.Goals as goal
 
 pub returns-then-at-out : goal.returns-then-at-out

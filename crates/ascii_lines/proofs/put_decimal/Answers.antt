@@ -1,12 +1,9 @@
 -- `put_decimal` meets its contract. Invariant: storing the remaining digits now gives the buffer with all digits stored.
-use Prim.Native.Nat.{ℕ, ◌≤◌}
-use mathlib.Core.Path.{◌≡◌, refl, ap, ◌∙◌}
+use Prim.Native.Nat.{ℕ}
+use mathlib.Core.Path.{refl, ap, ◌∙◌}
 use mathlib.Core.List.{[], ◌∷◌}
 use native.Mathlib.Omega.{arith}
-use lib.ListN.{length}
 use lib.Seq.{sets}
-use borrow.Author.Rules.{rules}
-use Rattle.ascii_lines.specs.Numbers.{decimal}
 use Rattle.ascii_lines.proofs.Page.{says}
 use Rattle.ascii_lines.proofs.Room.{length_most}
 use Rattle.ascii_lines.proofs.FromLast.{last_digits, last_all, digit_turn, stored, stayed, cut, whole}

@@ -1,6 +1,5 @@
 -- `put_number` meets its contract, by the laws of `Page`.
 use Rattle.ascii_lines.proofs.Page.{◌⨾◌}
-use borrow.Author.Rules.{rules}
 use Rattle.ascii_lines.proofs.put_number.Goals as goal
 
 pub returns : goal.returns

@@ -1,10 +1,8 @@
 -- `put_numbers` meets its contract. Invariant: writing the remaining numbers from here gives all numbers written from the start.
-use Prim.Native.Nat.{◌≤◌, ◌-◌}
-use mathlib.Core.Path.{◌≡◌, refl, ◌∙◌}
-use lib.ListN.{length, drop}
+use mathlib.Core.Path.{◌∙◌}
 use Rattle.laws.proofs.Lists.{each_more, each_none}
-use Rattle.ascii_lines.specs.Numbers.{number, numbers}
-use Rattle.ascii_lines.proofs.Page.{ToWrite, to_write_all, to_write_turn, to_write_none}
+use Rattle.ascii_lines.specs.Numbers.{number}
+use Rattle.ascii_lines.proofs.Page.{to_write_turn, to_write_none}
 use borrow.Author.Rules.{rules}
 use Rattle.ascii_lines.proofs.put_numbers.Goals as goal
 

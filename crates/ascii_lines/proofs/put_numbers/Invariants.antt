@@ -1,11 +1,9 @@
 -- `put_numbers` meets its contract. Invariant: writing the remaining numbers from here gives all numbers written from the start.
 use Prim.Native.Nat.{◌≤◌, ◌-◌}
-use mathlib.Core.Path.{◌≡◌, refl, ◌∙◌}
+use mathlib.Core.Path.{◌≡◌}
 use lib.ListN.{length, drop}
-use Rattle.laws.proofs.Lists.{each_more, each_none}
-use Rattle.ascii_lines.specs.Numbers.{number, numbers}
-use Rattle.ascii_lines.proofs.Page.{ToWrite, to_write_all, to_write_turn, to_write_none}
-use borrow.Author.Rules.{rules}
+use Rattle.ascii_lines.specs.Numbers.{numbers}
+use Rattle.ascii_lines.proofs.Page.{ToWrite}
 use Rattle.ascii_lines.proofs.put_numbers.Given as goal
 
 abbrev pub invariant-loop-i : goal.invariant-loop-i

@@ -1,10 +1,8 @@
 -- `put_text` meets its contract. Invariant: writing the remaining text from here gives the whole text written from the start.
 use Prim.Native.Nat.{◌≤◌, ◌-◌}
-use mathlib.Core.Path.{◌≡◌, refl, ◌∙◌}
-use lib.ListN.{length, drop, drop_of_length-le}
-use Rattle.laws.proofs.Lists.{drop_more}
-use Rattle.ascii_lines.proofs.Page.{ToWrite, to_write_all, to_write_turn, to_write_none}
-use borrow.Author.Rules.{rules}
+use mathlib.Core.Path.{◌≡◌}
+use lib.ListN.{length, drop}
+use Rattle.ascii_lines.proofs.Page.{ToWrite}
 use Rattle.ascii_lines.proofs.put_text.Given as goal
 
 abbrev pub invariant-loop-i : goal.invariant-loop-i

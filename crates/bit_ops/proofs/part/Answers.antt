@@ -2,7 +2,6 @@
 use mathlib.Core.Path.{sym}
 use lib.Pow.{pow_pos}
 use Rattle.bit_ops.proofs.Parts.{part_out, part_at}
-use borrow.Author.Rules.{rules}
 use Rattle.bit_ops.proofs.part.Goals as goal
 
 pub returns : goal.returns

@@ -1,5 +1,5 @@
 -- `put_bits` meets its contract: the old value is subtracted, the new one added.
-use Rattle.bit_ops.proofs.Shifts.{old_le, put_fits, put_shl}
+use Rattle.bit_ops.proofs.Shifts.{put_fits, put_shl}
 use borrow.Author.Rules.{rules}
 use Rattle.bit_ops.proofs.put_bits.Goals as goal
 

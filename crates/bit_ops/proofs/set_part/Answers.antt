@@ -3,7 +3,6 @@ use mathlib.Core.Path.{sym}
 use native.Mathlib.Omega.{arith}
 use Rattle.laws.proofs.Bits.{one_shl}
 use Rattle.bit_ops.proofs.Parts.{put_out, put_large, put_at}
-use borrow.Author.Rules.{rules}
 use Rattle.bit_ops.proofs.set_part.Goals as goal
 
 pub returns-then-stride-index : goal.returns-then-stride-index

@@ -1,7 +1,6 @@
 -- `utf8::check_utf8` meets its contract. Invariant: checking the remaining bytes from here gives the verdict on the whole text.
-use Rattle.std.proofs.Common.{◌≡◌, ◌+◌, ◌-◌, ◌≤◌, length, drop, ◌∙◌, rules}
-use Rattle.utf8.specs.Utf8.{verdict_from, first_bad}
-use Rattle.utf8.specs.Scan.{meaning}
+use Rattle.std.proofs.Common.{◌+◌, drop, ◌∙◌, rules}
+use Rattle.utf8.specs.Utf8.{first_bad}
 use Rattle.utf8.proofs.Steps.{scan_turn, scan_finish, scan_early}
 use Rattle.utf8.proofs.check_utf8.Goals as goal
 

@@ -1,8 +1,7 @@
 -- `utf8::check_utf8` meets its contract. Invariant: checking the remaining bytes from here gives the verdict on the whole text.
-use Rattle.std.proofs.Common.{◌≡◌, ◌+◌, ◌-◌, ◌≤◌, length, drop, ◌∙◌, rules}
+use Rattle.std.proofs.Common.{◌≡◌, ◌-◌, ◌≤◌, length, drop}
 use Rattle.utf8.specs.Utf8.{verdict_from, first_bad}
 use Rattle.utf8.specs.Scan.{meaning}
-use Rattle.utf8.proofs.Steps.{scan_turn, scan_finish, scan_early}
 use Rattle.utf8.proofs.check_utf8.Given as goal
 
 abbrev pub invariant-loop-i : goal.invariant-loop-i

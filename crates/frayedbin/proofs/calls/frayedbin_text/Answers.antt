@@ -1,0 +1,24 @@
+-- `calls::frayedbin_text` meets its contract, by the laws of `Texts`.
+use mathlib.Core.Path.{sym, ap, ◌∙◌}
+use Rattle.text_copy.specs.Copied.{CopyOutcome}
+use Rattle.c_structs.specs.Crossed.{copy_crossed}
+use Rattle.frayedbin.proofs.Texts.{text_refused, text_copied, text_known}
+use borrow.Author.Rules.{rules}
+use Rattle.frayedbin.proofs.calls.frayedbin_text.Goals as goal
+
+pub returns-in-Unknown : goal.returns-in-Unknown
+returns-in-Unknown c = absurd (text_known _ c.frayedbin_read-read.ensures c.if-read-ne0.false (sym c.kind_of.ensures ∙ c.in-Unknown.is))
+
+pub returns-then-read-ne0 : goal.returns-then-read-ne0
+returns-then-read-ne0 c =
+    let r = text_refused _ c.frayedbin_read-read.ensures _ c.if-read-ne0.true in
+    record { answer = r.0; bytes = r.1 }
+
+pub returns-in-Is : goal.returns-in-Is
+returns-in-Is c =
+    let copied = c.copy_kind.ensures in
+    let t = text_copied _ c.frayedbin_read-read.ensures _ c.if-read-ne0.false (sym c.kind_of.ensures ∙ c.in-Is.is) in
+    record {
+      answer = c.of_copy.ensures ∙ ap copy_crossed (copied.answer ∙ ap (λ (o : CopyOutcome). o.answer) t);
+      bytes = copied.bytes ∙ ap (λ (o : CopyOutcome). o.bytes) t;
+    }

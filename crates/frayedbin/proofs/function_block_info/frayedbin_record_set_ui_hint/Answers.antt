@@ -1,0 +1,10 @@
+-- `function_block_info::frayedbin_record_set_ui_hint` meets its contract, as what it calls does.
+use Rattle.frayedbin.proofs.OneNumber.{hint_own}
+use borrow.Author.Rules.{rules}
+use Rattle.frayedbin.proofs.function_block_info.frayedbin_record_set_ui_hint.Goals as goal
+
+pub returns-in-Message : goal.returns-in-Message
+returns-in-Message c = rw (← c.hint_from_code.ensures, c.in-Is.is) (hint_own _ _ (rw (c.of_edited.ensures, c.set_ui_hint.ensures, ← c.record_of.ensures, c.in-Message.is)))
+
+pub returns-in-Refused : goal.returns-in-Refused
+returns-in-Refused c = rw (← c.hint_from_code.ensures, c.in-Is.is) (hint_own _ _ (rw (c.refused_record.ensures, ← c.record_of.ensures, c.in-Refused.is)))
