@@ -26,7 +26,6 @@ use Rattle.table.specs.declared.names.FieldAt.{FieldAt}
 use Rattle.table.specs.Places.{slot_at}
 use Rattle.table.specs.Named.{flag_named, number_named, flag_at, number_at, FieldIs}
 use Rattle.records.specs.declared.message.Message.{Message}
-use Rattle.records.specs.declared.answers.Answer.{Answer}
 use Rattle.records.specs.declared.answers.Answer.TheVariants as A
 use Rattle.records.specs.declared.answers.Edited.{Edited}
 use Rattle.records.specs.Settings.{set_record}

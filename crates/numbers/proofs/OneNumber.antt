@@ -2,11 +2,9 @@
 use Prim.Native.Nat.{ℕ, ◌^◌}
 use mathlib.Core.Path.{◌≡◌, refl, sym, ap, subst, ◌∙◌}
 use mathlib.Core.Bool.{Bool, true, false, not}
-use mathlib.Core.List.{List, [], ◌∷◌}
+use mathlib.Core.List.{List}
 use lib.ListN.{length}
 use lib.Dec.{ltb}
-use types.Run.{OneOf, miss}
-use denote.Enum.Declared.{tag_of}
 use Rattle.laws.specs.Pick.{both}
 use Rattle.laws.specs.Lists.{each}
 use Rattle.laws.proofs.Pick.{both_alone}
@@ -16,7 +14,6 @@ use Rattle.kinds.specs.declared.kind.Kind.TheVariants as K
 use Rattle.kinds.specs.declared.refusal.Refusal.TheVariants.{NumberTooLarge, NoSuchField}
 use Rattle.kinds.specs.Fields.{Field, Setting, field_in, value_in, same, decided, start, part_of, bit}
 use Rattle.kinds.specs.Layout.{layout, none, slots_of}
-use Rattle.kinds.specs.contracts.kind.Kind.{the_type}
 use Rattle.kinds.proofs.Codes.{bit_flag}
 use Rattle.kinds.proofs.Homes.{elsewhere}
 use Rattle.table.specs.declared.names.FlagName.{FlagName}

@@ -4,7 +4,7 @@ use mathlib.Core.Path.{◌≡◌, refl}
 use mathlib.Core.Bool.{true}
 use mathlib.Core.List.{List}
 use lib.ListN.{length}
-use Rattle.slots.specs.Slots.{put_all, fits, disjoint, reads}
+use Rattle.slots.specs.Slots.{put_all, fits, reads}
 use Rattle.text.specs.Written.{blank}
 use Rattle.kinds.specs.Fields.{Field, Setting, field_in, value_in, start}
 use Rattle.kinds.specs.Layout.{Body, fixed, texts, Row, parts, values_in, right_body}

@@ -1,15 +1,13 @@
 -- How a method on a record reaches each of its answers. Closed by computing the table and the record at the method's kind.
 use Prim.Native.Nat.{ℕ, suc, ◌<◌, ◌≤◌, ◌/◌, ◌%◌}
-use mathlib.Core.Path.{◌≡◌, sym, ap, ◌∙◌, subst}
+use mathlib.Core.Path.{◌≡◌, sym, ◌∙◌, subst}
 use mathlib.Core.Bool.{Bool, true, false, not}
 use mathlib.Core.Logic.{⊎_elim}
-use mathlib.Core.List.{List, [], ◌∷◌}
+use mathlib.Core.List.{[], ◌∷◌}
 use native.Mathlib.Omega.{arith}
-use lib.Dec.{T, ltb, eqb}
-use lib.ListN.{length}
+use lib.Dec.{ltb, eqb}
 use borrow.Author.Tests.{lt-ltb, le-ltb, ltb-true, not-false, ne_eqb}
 use Rattle.laws.specs.Pick.{pick, both}
-use Rattle.laws.specs.Lists.{tabulate}
 use Rattle.laws.proofs.Pick.{below, both_left, both_right, both_alone}
 use Rattle.slots.specs.Slots.{those, fits}
 use Rattle.kinds.specs.declared.kind.Kind.{Kind}
@@ -20,9 +18,8 @@ use Rattle.kinds.specs.declared.choices.Direction.{Direction}
 use Rattle.kinds.specs.declared.refusal.Refusal.TheVariants.{NumberTooLarge, NoSuchField}
 use Rattle.kinds.specs.Choices.{hint_code, port_code, direction_code}
 use Rattle.kinds.specs.Fields.{Flag, Number, Field, Setting, field_in, value_in, bit, same, decided, part_of}
-use Rattle.kinds.specs.Layout.{layout, kinds, none, slots_of}
+use Rattle.kinds.specs.Layout.{layout, none, slots_of}
 use Rattle.kinds.proofs.Codes.{bit_fits, hint_fits, port_fits, direction_fits}
-use Rattle.kinds.proofs.Rows.{every_kind, at_kind}
 use Rattle.kinds.proofs.Homes.{one_status, elsewhere}
 use Rattle.counts.specs.declared.PacketNumber.{PacketNumber}
 use Rattle.records.specs.declared.endpoint_discovery.EndpointDiscovery.{EndpointDiscovery}

@@ -2,11 +2,9 @@
 -- Closed by computing the records at each kind once, and induction on the table.
 use Prim.Native.Nat.{ℕ}
 use mathlib.Core.Path.{◌≡◌, refl, sym, ap, ◌∙◌}
-use mathlib.Core.Bool.{Bool, true, false}
-use mathlib.Core.List.{List, [], ◌∷◌}
-use lib.ListN.{get_or}
-use lib.Dec.{eqb}
-use Rattle.laws.specs.Pick.{pick, both}
+use mathlib.Core.Bool.{true, false}
+use mathlib.Core.List.{List}
+use Rattle.laws.specs.Pick.{both}
 use Rattle.laws.specs.Lists.{each}
 use Rattle.laws.proofs.Pick.{never, split}
 use Rattle.kinds.specs.declared.kind.Kind.{Kind}

@@ -1,15 +1,8 @@
 -- `put_each` meets its contract, by the laws of `Turns`, turn by turn.
-use Prim.Native.Nat.{◌≤◌, ◌-◌, ◌*◌, ◌/◌}
-use mathlib.Core.Path.{refl}
 use native.Mathlib.Omega.{arith}
-use lib.ListN.{length}
-use borrow.Author.Tests.{lt-ltb, le-ltb}
-use Rattle.laws.proofs.Pick.{here, past}
-use Rattle.text.specs.Written.{each_first}
 use Rattle.text.proofs.Heads.{starts_at}
-use Rattle.fields.specs.Puts.{put_if_fits, put_each}
-use Rattle.fields.proofs.Filled.{Filled, firsts, none_filled, packet_filled, all_filled}
-use borrow.Author.Rules.{rules}
+use Rattle.fields.specs.Puts.{put_if_fits}
+use Rattle.fields.proofs.Filled.{none_filled, packet_filled}
 use Rattle.fields.proofs.put_each.Goals as goal
 
 pub loop-p-init : goal.loop-p-init

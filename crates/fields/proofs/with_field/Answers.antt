@@ -2,7 +2,7 @@
 use mathlib.Core.Path.{sym, ◌∙◌}
 use native.Mathlib.Omega.{arith}
 use borrow.Author.Tests.{leb-true, leb-false}
-use Rattle.fields.proofs.Puts.{put_fitting, put_outside, put_too_large, low_pos, top_pos, put_is, put_in_word}
+use Rattle.fields.proofs.Puts.{put_fitting, put_outside, put_too_large, put_is, put_in_word}
 use borrow.Author.Rules.{rules}
 use Rattle.fields.proofs.with_field.Goals as goal
 

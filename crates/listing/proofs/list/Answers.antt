@@ -1,10 +1,7 @@
 -- `list` meets its contract, by the laws of `Room` and `Page` of lines.
-use mathlib.Core.Path.{sym, refl}
-use native.Mathlib.Omega.{arith}
-use lib.Seq.{length-take-le}
+use mathlib.Core.Path.{refl}
 use Rattle.ascii_lines.proofs.Page.{◌⨾◌, says}
 use Rattle.listing.proofs.Room.{listed, too_long, all_listed}
-use borrow.Author.Rules.{rules}
 use Rattle.listing.proofs.list.Goals as goal
 
 pub returns-then-bytes-gt32768 : goal.returns-then-bytes-gt32768

@@ -1,6 +1,5 @@
 -- `put_kind_name` meets its contract: each kind's name is computed.
 use Rattle.sentences.specs.Sentences.{kind_name}
-use borrow.Author.Rules.{rules}
 use Rattle.sentences.proofs.put_kind_name.Goals as goal
 
 pub returns-in-EndpointDiscovery : goal.returns-in-EndpointDiscovery

@@ -1,9 +1,6 @@
 -- `put_string` meets its contract, by the laws of `Strings`.
-use mathlib.Core.Path.{refl, sym}
-use native.Mathlib.Omega.{arith}
-use lib.Seq.{length-take-le}
-use borrow.Author.Rules.{rules}
-use Rattle.sentences.proofs.Strings.{end_inside, string_put, none_put}
+use mathlib.Core.Path.{refl}
+use Rattle.sentences.proofs.Strings.{end_inside, string_put}
 use Rattle.sentences.proofs.put_string.Goals as goal
 
 pub bounds-out-end : goal.bounds-out-end

@@ -1,12 +1,10 @@
 -- `copy_packets` meets its contract: full packets fit, the text fits, or nothing is put.
-use Prim.Native.Nat.{◌-◌, ◌/◌}
+use Prim.Native.Nat.{◌/◌}
 use mathlib.Core.Path.{ap}
 use native.Mathlib.Omega.{arith}
 use lib.ListN.{length}
 use Rattle.counts.specs.declared.PacketNumber.{PacketNumber}
-use Rattle.text.specs.Bytes.{text_of}
-use Rattle.text_copy.proofs.Copies.{text_most, no_room}
-use borrow.Author.Rules.{rules}
+use Rattle.text_copy.proofs.Copies.{text_most}
 use Rattle.text_copy.proofs.copy_packets.Goals as goal
 
 pub put_whole-requires : goal.put_whole-requires

@@ -3,7 +3,6 @@ use Prim.Native.Nat.{◌-◌, ◌/◌}
 use lib.ListN.{length}
 use Rattle.text.specs.Bytes.{text_of}
 use Rattle.text_copy.proofs.Copies.{copied}
-use borrow.Author.Rules.{rules}
 use Rattle.text_copy.proofs.put_whole.Goals as goal
 
 pub returns : goal.returns

@@ -1,11 +1,8 @@
 -- The packets of a message. The loop's invariant: what framing gives from packet p on is what it gives from packet 0 on.
 use Prim.Native.Nat.{◌≤◌, ◌-◌}
-use mathlib.Core.Path.{◌≡◌, ◌∙◌, sym, ap}
-use native.Mathlib.Numerals.{add-one}
+use mathlib.Core.Path.{◌≡◌}
 use lib.ListN.{length}
-use Rattle.standard.specs.Walk.{step_of, frame_from, frame_of}
-use Rattle.walking.proofs.Turns.{packet_short, packet_type, packet_status, packet_step, frame_open, frame_end}
-use borrow.Author.Rules.{rules}
+use Rattle.standard.specs.Walk.{frame_from, frame_of}
 use Rattle.walking.proofs.frame.Given as goal
 
 abbrev pub invariant-loop-p : goal.invariant-loop-p

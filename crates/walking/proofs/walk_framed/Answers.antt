@@ -4,7 +4,6 @@ use native.Mathlib.Nat.{add-sub_cancel_left}
 use Rattle.standard.specs.Walk.{framed_of}
 use Rattle.standard.proofs.Next.{whole_room}
 use Rattle.walking.proofs.FramedRead.{framed_words, framed_read_lem}
-use borrow.Author.Rules.{rules}
 use Rattle.walking.proofs.walk_framed.Goals as goal
 
 pub overflow_add-after : goal.overflow_add-after

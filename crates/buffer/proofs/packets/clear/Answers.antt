@@ -1,9 +1,6 @@
 -- `packets::clear` meets its contract, by the laws of `Turns`.
 use mathlib.Core.Path.{◌∙◌}
-use native.Mathlib.Omega.{arith}
-use lib.ListN.{length-set}
-use Rattle.buffer.proofs.Turns.{length_cleared, blank_none, blank_cleared}
-use borrow.Author.Rules.{rules}
+use Rattle.buffer.proofs.Turns.{blank_none, blank_cleared}
 use Rattle.buffer.proofs.packets.clear.Goals as goal
 
 pub returns-then-words-lt4 : goal.returns-then-words-lt4

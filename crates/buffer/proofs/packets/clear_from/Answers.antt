@@ -1,16 +1,12 @@
 -- `packets::clear_from` meets its contract, by the laws of `Turns`, turn by turn.
-use Prim.Native.Nat.{◌≤◌, ◌-◌, ◌*◌, ◌/◌}
+use Prim.Native.Nat.{◌*◌, ◌/◌}
 use mathlib.Core.Path.{◌≡◌, ap}
 use native.Mathlib.Omega.{arith}
-use lib.ListN.{length, get_or}
-use lib.Dec.{ltb}
+use lib.ListN.{length}
 use borrow.Author.Tests.{lt-ltb, le-ltb}
-use Rattle.laws.specs.Pick.{pick}
 use Rattle.counts.specs.declared.WordNumber.{WordNumber}
-use Rattle.buffer.specs.Acts.{clear_from}
-use Rattle.fields.proofs.Filled.{Filled, more_filled, all_filled}
+use Rattle.fields.proofs.Filled.{more_filled}
 use Rattle.buffer.proofs.Turns.{found_filled}
-use borrow.Author.Rules.{rules}
 use Rattle.buffer.proofs.packets.clear_from.Goals as goal
 
 pub loop-k-init : goal.loop-k-init

@@ -8,7 +8,6 @@ use Rattle.text.specs.Written.{word_new}
 use Rattle.buffer.specs.Acts.{formatted}
 use Rattle.fields.proofs.Filled.{is_filled, all_filled}
 use Rattle.buffer.proofs.Turns.{text_more}
-use borrow.Author.Rules.{rules}
 use Rattle.buffer.proofs.texts.fill_all.Goals as goal
 
 pub returns-then-full-packets : goal.returns-then-full-packets

@@ -6,7 +6,6 @@ use Rattle.text.specs.Written.{word_in}
 use Rattle.buffer.specs.Acts.{formatted}
 use Rattle.buffer.proofs.Octets.{same_head}
 use Rattle.buffer.proofs.Turns.{word_of, four_set}
-use borrow.Author.Rules.{rules}
 use Rattle.buffer.proofs.texts.fill_any_packet.Goals as goal
 
 pub returns : goal.returns

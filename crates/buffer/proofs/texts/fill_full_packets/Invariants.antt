@@ -1,15 +1,9 @@
 -- `texts::fill_full_packets` meets its contract, by the laws of `Turns`, turn by turn.
-use Prim.Native.Nat.{ℕ, ◌+◌, ◌-◌, ◌*◌, ◌≤◌}
+use Prim.Native.Nat.{◌+◌, ◌-◌, ◌*◌, ◌≤◌}
 use mathlib.Core.Path.{◌≡◌}
-use native.Mathlib.Omega.{arith}
-use native.Mathlib.Numerals.{add-one}
-use native.Mathlib.Nat.{suc-mul}
 use Rattle.text.specs.Written.{word_new}
 use Rattle.buffer.specs.Acts.{formatted}
-use Rattle.buffer.proofs.Octets.{product}
-use Rattle.fields.proofs.Filled.{Filled, none_filled}
-use Rattle.buffer.proofs.Turns.{text_more}
-use borrow.Author.Rules.{rules}
+use Rattle.fields.proofs.Filled.{Filled}
 use Rattle.buffer.proofs.texts.fill_full_packets.Given as goal
 
 abbrev pub invariant-loop-p : goal.invariant-loop-p

@@ -1,11 +1,7 @@
 -- `texts::fill_packets` meets its contract, by the laws of `Turns`, turn by turn.
-use Prim.Native.Nat.{◌≤◌, ◌-◌, ◌*◌}
 use native.Mathlib.Omega.{arith}
-use Rattle.text.specs.Written.{word_new}
-use Rattle.buffer.specs.Acts.{formatted}
-use Rattle.fields.proofs.Filled.{Filled, none_filled, all_filled}
+use Rattle.fields.proofs.Filled.{none_filled}
 use Rattle.buffer.proofs.Turns.{text_more}
-use borrow.Author.Rules.{rules}
 use Rattle.buffer.proofs.texts.fill_packets.Goals as goal
 
 pub loop-p-init : goal.loop-p-init

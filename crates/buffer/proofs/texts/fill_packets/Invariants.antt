@@ -1,11 +1,8 @@
 -- `texts::fill_packets` meets its contract, by the laws of `Turns`, turn by turn.
 use Prim.Native.Nat.{◌≤◌, ◌-◌, ◌*◌}
-use native.Mathlib.Omega.{arith}
 use Rattle.text.specs.Written.{word_new}
 use Rattle.buffer.specs.Acts.{formatted}
-use Rattle.fields.proofs.Filled.{Filled, none_filled, all_filled}
-use Rattle.buffer.proofs.Turns.{text_more}
-use borrow.Author.Rules.{rules}
+use Rattle.fields.proofs.Filled.{Filled}
 use Rattle.buffer.proofs.texts.fill_packets.Given as goal
 
 abbrev pub invariant-loop-p : goal.invariant-loop-p

@@ -1,16 +1,14 @@
 -- `texts::fill_text` meets its contract, by the laws of `Turns` and `Written`.
 use Prim.Native.Nat.{◌-◌, ◌*◌}
-use mathlib.Core.Path.{refl, sym, ap, ◌∙◌}
+use mathlib.Core.Path.{sym, ap, ◌∙◌}
 use native.Mathlib.Omega.{arith}
-use borrow.Author.Tests.{lt-ltb, le-ltb, le-leb, lt-leb}
-use Rattle.laws.specs.Lists.{up_to}
-use Rattle.laws.proofs.Pick.{here, past}
+use borrow.Author.Tests.{le-ltb, lt-leb}
+use Rattle.laws.proofs.Pick.{past}
 use Rattle.counts.specs.declared.PacketNumber.{PacketNumber}
 use Rattle.text.specs.Written.{written, word_new}
 use Rattle.text.proofs.Written.{word_zero}
 use Rattle.buffer.specs.Acts.{formatted, fill_text}
 use Rattle.buffer.proofs.Turns.{word_of, clear_rest}
-use borrow.Author.Rules.{rules}
 use Rattle.buffer.proofs.texts.fill_text.Goals as goal
 
 pub returns : goal.returns

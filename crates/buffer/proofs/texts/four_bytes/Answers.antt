@@ -1,10 +1,6 @@
 -- `texts::four_bytes` meets its contract, by the laws of `BigEndian`.
-use Prim.Native.Nat.{ℕ, ◌+◌, ◌≤◌}
-use mathlib.Core.Path.{◌≡◌, ◌∙◌}
-use native.Mathlib.Omega.{arith}
-use lib.ListN.{get_or, get_or-eq_default}
+use mathlib.Core.Path.{◌∙◌}
 use Rattle.text.proofs.BigEndian.{big_endian_in}
-use borrow.Author.Rules.{rules}
 use Rattle.buffer.proofs.texts.four_bytes.Goals as goal
 
 pub returns-then-i-text : goal.returns-then-i-text

@@ -4,7 +4,6 @@ use lib.Dec.{lit≤}
 use Rattle.text.proofs.Needed.{due_format_small}
 use Rattle.buffer.specs.Acts.{formatted}
 use Rattle.fields.proofs.Puts.{put_fitting}
-use borrow.Author.Rules.{rules}
 use Rattle.buffer.proofs.texts.head_of.Goals as goal
 
 pub returns : goal.returns

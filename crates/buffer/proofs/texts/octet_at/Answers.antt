@@ -6,7 +6,6 @@ use lib.ListN.{get_or}
 use Rattle.counts.specs.declared.TextByteNumber.{TextByteNumber}
 use Rattle.text.specs.Octets.{octet_of}
 use Rattle.buffer.proofs.Octets.{before_text, in_head, in_text}
-use borrow.Author.Rules.{rules}
 use Rattle.buffer.proofs.texts.octet_at.Goals as goal
 
 pub returns-then-j-ge4 : goal.returns-then-j-ge4

@@ -2,7 +2,6 @@
 use mathlib.Core.Path.{ap}
 use Rattle.c_structs.specs.Crossed.{with_numbers}
 use Rattle.c_structs.proofs.Fresh.{fresh_plain, fresh-block}
-use borrow.Author.Rules.{rules}
 use Rattle.c_structs.proofs.answers.of_fresh.Goals as goal
 
 pub returns-in_default : goal.returns-in_default

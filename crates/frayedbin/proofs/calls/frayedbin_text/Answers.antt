@@ -3,7 +3,6 @@ use mathlib.Core.Path.{sym, ap, ◌∙◌}
 use Rattle.text_copy.specs.Copied.{CopyOutcome}
 use Rattle.c_structs.specs.Crossed.{copy_crossed}
 use Rattle.frayedbin.proofs.Texts.{text_refused, text_copied, text_known}
-use borrow.Author.Rules.{rules}
 use Rattle.frayedbin.proofs.calls.frayedbin_text.Goals as goal
 
 pub returns-in-Unknown : goal.returns-in-Unknown

@@ -10,7 +10,6 @@ use Rattle.counts.specs.declared.WordNumber.{WordNumber}
 use Rattle.c_structs.specs.Crossed.{walk_crossed}
 use Rattle.walking.proofs.Other.{size_found}
 use Rattle.frayedbin.proofs.Walks.{case_crossed, message_crossed}
-use borrow.Author.Rules.{rules}
 use Rattle.frayedbin.proofs.calls.frayedbin_walk.Goals as goal
 
 pub offset_bounds-words-position : goal.offset_bounds-words-position

@@ -1,6 +1,5 @@
 -- `device_identity::frayedbin_record_set_device_family` meets its contract, as the calls that it makes.
 use Rattle.frayedbin.proofs.OneNumber.{pair_own}
-use borrow.Author.Rules.{rules}
 use Rattle.frayedbin.proofs.device_identity.frayedbin_record_set_device_family.Goals as goal
 
 pub returns-in-Message : goal.returns-in-Message

@@ -1,6 +1,5 @@
 -- `device_identity::frayedbin_record_set_device_manufacturer` meets its contract, as the calls that it makes.
 use Rattle.frayedbin.proofs.OneNumber.{manufacturer_own}
-use borrow.Author.Rules.{rules}
 use Rattle.frayedbin.proofs.device_identity.frayedbin_record_set_device_manufacturer.Goals as goal
 
 pub returns-in-Message : goal.returns-in-Message

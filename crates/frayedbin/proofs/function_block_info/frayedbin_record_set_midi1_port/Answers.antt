@@ -1,6 +1,5 @@
 -- `function_block_info::frayedbin_record_set_midi1_port` meets its contract, as what it calls does.
 use Rattle.frayedbin.proofs.OneNumber.{port_own}
-use borrow.Author.Rules.{rules}
 use Rattle.frayedbin.proofs.function_block_info.frayedbin_record_set_midi1_port.Goals as goal
 
 pub returns-in-Message : goal.returns-in-Message

@@ -1,6 +1,5 @@
 -- `function_block_name::frayedbin_record_set_function_block` meets its contract, as the calls that it makes.
 use Rattle.frayedbin.proofs.OneNumber.{block_own}
-use borrow.Author.Rules.{rules}
 use Rattle.frayedbin.proofs.function_block_name.frayedbin_record_set_function_block.Goals as goal
 
 pub returns-in-Message : goal.returns-in-Message

@@ -2,7 +2,6 @@
 use mathlib.Core.Path.{◌∙◌}
 use Rattle.bit_ops.proofs.Parts.{bit_byte}
 use Rattle.frayedbin.proofs.OneNumber.{flag-set}
-use borrow.Author.Rules.{rules}
 use Rattle.frayedbin.proofs.named.flag_in.Goals as goal
 
 pub returns : goal.returns

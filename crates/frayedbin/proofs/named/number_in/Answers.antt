@@ -1,7 +1,6 @@
 -- `named::number_in` meets its contract, by the laws of `OneNumber`.
 use mathlib.Core.Path.{◌∙◌}
 use Rattle.frayedbin.proofs.OneNumber.{number-set}
-use borrow.Author.Rules.{rules}
 use Rattle.frayedbin.proofs.named.number_in.Goals as goal
 
 pub returns : goal.returns

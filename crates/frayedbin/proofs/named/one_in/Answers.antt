@@ -1,7 +1,6 @@
 -- `named::one_in` meets its contract, by the laws of `OneNumber`.
 use mathlib.Core.Path.{sym, ◌∙◌}
-use Rattle.frayedbin.proofs.OneNumber.{in_refused, in_large, in_done}
-use borrow.Author.Rules.{rules}
+use Rattle.frayedbin.proofs.OneNumber.{in_done}
 use Rattle.frayedbin.proofs.named.one_in.Goals as goal
 
 pub returns-else-too_large : goal.returns-else-too_large

@@ -1,7 +1,6 @@
 -- `shared_names::frayedbin_record_set_ump_version_minor` meets its contract, by the record's status.
 use mathlib.Core.Path.{◌∙◌}
 use Rattle.frayedbin.proofs.OneNumber.{first-name, second-name}
-use borrow.Author.Rules.{rules}
 use Rattle.frayedbin.proofs.shared_names.frayedbin_record_set_ump_version_minor.Goals as goal
 
 pub returns-then-record-eq0 : goal.returns-then-record-eq0

@@ -1,7 +1,6 @@
 -- `answers::put_answer` meets its contract, by the laws of `Page` of lines and `Stands` of walking.
 use native.Mathlib.Omega.{arith}
 use Rattle.ascii_lines.proofs.Page.{nothing}
-use borrow.Author.Rules.{rules}
 use Rattle.walking.proofs.Stands.{message-within, message_words, message-packets}
 use Rattle.listing.proofs.answers.put_answer.Goals as goal
 

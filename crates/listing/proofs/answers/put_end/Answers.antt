@@ -1,6 +1,5 @@
 -- `answers::put_end` meets its contract, by the laws of `Page` of lines.
 use Rattle.ascii_lines.proofs.Page.{◌⨾◌}
-use borrow.Author.Rules.{rules}
 use Rattle.listing.proofs.answers.put_end.Goals as goal
 
 pub returns : goal.returns

@@ -1,10 +1,7 @@
 -- `answers::put_lines` meets its contract, by the laws of `Lines` and `Visits` of walking, turn by turn.
-use Prim.Native.Nat.{◌-◌}
-use mathlib.Core.Path.{◌≡◌, refl, ◌∙◌}
+use mathlib.Core.Path.{◌∙◌}
 use native.Mathlib.Omega.{arith}
-use lib.ListN.{length}
-use Rattle.listing.proofs.Lines.{Going, going_all, going_turn, going_none}
-use borrow.Author.Rules.{rules}
+use Rattle.listing.proofs.Lines.{going_turn, going_none}
 use Rattle.walking.proofs.Visits.{next_between}
 use Rattle.listing.proofs.answers.put_lines.Goals as goal
 

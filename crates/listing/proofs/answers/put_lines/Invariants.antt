@@ -1,11 +1,8 @@
 -- `answers::put_lines` meets its contract, by the laws of `Lines` and `Visits` of walking, turn by turn.
 use Prim.Native.Nat.{◌-◌}
-use mathlib.Core.Path.{◌≡◌, refl, ◌∙◌}
-use native.Mathlib.Omega.{arith}
+use mathlib.Core.Path.{◌≡◌}
 use lib.ListN.{length}
-use Rattle.listing.proofs.Lines.{Going, going_all, going_turn, going_none}
-use borrow.Author.Rules.{rules}
-use Rattle.walking.proofs.Visits.{next_between}
+use Rattle.listing.proofs.Lines.{Going}
 use Rattle.listing.proofs.answers.put_lines.Given as goal
 
 abbrev pub invariant-loop-pos : goal.invariant-loop-pos

@@ -8,7 +8,6 @@ use Rattle.records.specs.Records.{fields_in, lookup, first_part}
 use Rattle.ascii_lines.proofs.Page.{says}
 use Rattle.sentences.specs.Sentences.{kind_name}
 use Rattle.listing.proofs.Numbers.{fixed_shown, name_shown, product_shown, block_name_shown}
-use borrow.Author.Rules.{rules}
 use Rattle.listing.proofs.messages.put_message.Goals as goal
 
 pub returns-in-DeviceIdentity : goal.returns-in-DeviceIdentity

@@ -1,6 +1,5 @@
 -- `messages::put_texts` meets its contract, by the laws of `Numbers` and `Page` of lines.
 use Rattle.ascii_lines.proofs.Page.{◌⨾◌}
-use borrow.Author.Rules.{rules}
 use Rattle.listing.proofs.messages.put_texts.Goals as goal
 
 pub returns : goal.returns

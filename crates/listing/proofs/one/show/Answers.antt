@@ -2,7 +2,6 @@
 use mathlib.Core.Path.{sym, ◌∙◌}
 use native.Mathlib.Omega.{arith}
 use Rattle.standard.proofs.Formed.{read_formed}
-use borrow.Author.Rules.{rules}
 use Rattle.listing.proofs.one.show.Goals as goal
 
 pub put_message-requires : goal.put_message-requires

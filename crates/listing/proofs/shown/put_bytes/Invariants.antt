@@ -1,14 +1,12 @@
 -- `shown::put_bytes` meets its contract, by the laws of `Ahead` and `Page` of lines, turn by turn.
 use Prim.Native.Nat.{◌-◌, ◌/◌}
-use mathlib.Core.Path.{◌≡◌, refl, ◌∙◌}
-use native.Mathlib.Omega.{arith}
+use mathlib.Core.Path.{◌≡◌}
 use lib.ListN.{length}
 use Rattle.laws.specs.Lists.{each}
 use Rattle.text.specs.Bytes.{text_of}
 use Rattle.ascii_lines.specs.Numbers.{hex_byte}
-use Rattle.ascii_lines.proofs.Page.{ToWrite, to_write_all, to_write_turn, to_write_none}
-use Rattle.listing.proofs.Ahead.{Ahead, ahead, ahead_all, ahead_start, hex_more, ahead_more, ahead_less, hex_none}
-use borrow.Author.Rules.{rules}
+use Rattle.ascii_lines.proofs.Page.{ToWrite}
+use Rattle.listing.proofs.Ahead.{Ahead, ahead}
 use Rattle.listing.proofs.shown.put_bytes.Given as goal
 
 abbrev pub invariant-loop-byte : goal.invariant-loop-byte

@@ -3,7 +3,6 @@ use Prim.Native.Nat.{◌-◌}
 use native.Mathlib.Omega.{arith}
 use Rattle.ascii_lines.proofs.Page.{◌⨾◌, says}
 use Rattle.listing.proofs.Ahead.{shown_none, shown_some}
-use borrow.Author.Rules.{rules}
 use Rattle.listing.proofs.shown.put_shown.Goals as goal
 
 pub returns-in-End : goal.returns-in-End

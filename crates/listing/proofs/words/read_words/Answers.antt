@@ -1,12 +1,7 @@
 -- `words::read_words` meets its contract, by the laws of `Lists` of laws, turn by turn.
-use Prim.Native.Nat.{◌≤◌, ◌-◌, ◌/◌, min}
-use mathlib.Core.Path.{◌≡◌, refl, ◌∙◌}
 use native.Mathlib.Omega.{arith}
-use lib.ListN.{length, length-set}
-use Rattle.laws.specs.Lists.{up_to}
+use lib.ListN.{length-set}
 use Rattle.laws.proofs.Lists.{up_to_more}
-use Rattle.listing.specs.Listing.{word_at}
-use borrow.Author.Rules.{rules}
 use Rattle.listing.proofs.words.read_words.Goals as goal
 
 pub loop-i-preserved : goal.loop-i-preserved

@@ -1,12 +1,9 @@
 -- `words::read_words` meets its contract, by the laws of `Lists` of laws, turn by turn.
 use Prim.Native.Nat.{◌≤◌, ◌-◌, ◌/◌, min}
-use mathlib.Core.Path.{◌≡◌, refl, ◌∙◌}
-use native.Mathlib.Omega.{arith}
-use lib.ListN.{length, length-set}
+use mathlib.Core.Path.{◌≡◌}
+use lib.ListN.{length}
 use Rattle.laws.specs.Lists.{up_to}
-use Rattle.laws.proofs.Lists.{up_to_more}
 use Rattle.listing.specs.Listing.{word_at}
-use borrow.Author.Rules.{rules}
 use Rattle.listing.proofs.words.read_words.Given as goal
 
 abbrev pub invariant-loop-i : goal.invariant-loop-i

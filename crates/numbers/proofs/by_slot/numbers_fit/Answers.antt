@@ -1,12 +1,8 @@
 -- `by_slot::numbers_fit` meets its contract, by the laws of `BySlot`, turn by turn.
-use Prim.Native.Nat.{◌+◌, ◌-◌, ◌≤◌}
-use mathlib.Core.Path.{◌≡◌, ◌∙◌}
+use mathlib.Core.Path.{◌∙◌}
 use native.Mathlib.Omega.{arith}
-use lib.ListN.{length, get_or, drop}
-use Rattle.kinds.specs.Layout.{layout}
-use Rattle.numbers.specs.BySlot.{fit_from}
-use Rattle.numbers.proofs.BySlot.{fit_turn, fit_bad, fit_done, whole, width_told}
-use borrow.Author.Rules.{rules}
+use lib.ListN.{get_or}
+use Rattle.numbers.proofs.BySlot.{fit_turn, fit_bad, fit_done, width_told}
 use Rattle.numbers.proofs.by_slot.numbers_fit.Goals as goal
 
 pub returns-then-too_large : goal.returns-then-too_large

@@ -1,12 +1,9 @@
 -- `by_slot::numbers_fit` meets its contract, by the laws of `BySlot`, turn by turn.
 use Prim.Native.Nat.{◌+◌, ◌-◌, ◌≤◌}
-use mathlib.Core.Path.{◌≡◌, ◌∙◌}
-use native.Mathlib.Omega.{arith}
-use lib.ListN.{length, get_or, drop}
+use mathlib.Core.Path.{◌≡◌}
+use lib.ListN.{length, drop}
 use Rattle.kinds.specs.Layout.{layout}
 use Rattle.numbers.specs.BySlot.{fit_from}
-use Rattle.numbers.proofs.BySlot.{fit_turn, fit_bad, fit_done, whole, width_told}
-use borrow.Author.Rules.{rules}
 use Rattle.numbers.proofs.by_slot.numbers_fit.Given as goal
 
 abbrev pub invariant-loop-i : goal.invariant-loop-i

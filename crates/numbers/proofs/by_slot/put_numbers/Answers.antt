@@ -1,11 +1,11 @@
 -- `by_slot::put_numbers` meets its contract, by the laws of `BySlot`, turn by turn.
-use Prim.Native.Nat.{◌+◌, ◌-◌, ◌≤◌}
-use mathlib.Core.Path.{◌≡◌, refl, sym, ap, ◌∙◌}
+use Prim.Native.Nat.{◌+◌, ◌-◌}
+use mathlib.Core.Path.{refl, sym, ap, ◌∙◌}
 use native.Mathlib.Omega.{arith}
-use lib.ListN.{length, get_or, drop}
+use lib.ListN.{length, get_or}
 use Rattle.kinds.specs.Layout.{layout}
 use Rattle.table.specs.Places.{slot_at}
-use Rattle.numbers.specs.BySlot.{put_slot, put_from}
+use Rattle.numbers.specs.BySlot.{put_slot}
 use Rattle.numbers.proofs.BySlot.{put_last, put_turn, placed}
 use borrow.Author.Rules.{rules}
 use Rattle.numbers.proofs.by_slot.put_numbers.Goals as goal

@@ -1,13 +1,9 @@
 -- `by_slot::put_numbers` meets its contract, by the laws of `BySlot`, turn by turn.
-use Prim.Native.Nat.{◌+◌, ◌-◌, ◌≤◌}
-use mathlib.Core.Path.{◌≡◌, refl, sym, ap, ◌∙◌}
-use native.Mathlib.Omega.{arith}
-use lib.ListN.{length, get_or, drop}
+use Prim.Native.Nat.{◌+◌, ◌≤◌}
+use mathlib.Core.Path.{◌≡◌}
+use lib.ListN.{length, drop}
 use Rattle.kinds.specs.Layout.{layout}
-use Rattle.table.specs.Places.{slot_at}
-use Rattle.numbers.specs.BySlot.{put_slot, put_from}
-use Rattle.numbers.proofs.BySlot.{put_last, put_turn, placed}
-use borrow.Author.Rules.{rules}
+use Rattle.numbers.specs.BySlot.{put_from}
 use Rattle.numbers.proofs.by_slot.put_numbers.Given as goal
 
 abbrev pub invariant-loop-i : goal.invariant-loop-i

@@ -1,10 +1,7 @@
 -- `in_slots::are_within` meets its contract, by the laws of `Within`, turn by turn.
-use borrow.Author.Rules.{rules}
-use Rattle.numbers.proofs.Within.{within_short, within_bad, within_good, within_done}
 use Rattle.numbers.specs.FromNumbers.{within}
 use lib.ListN.{length, drop}
-use native.Mathlib.Omega.{arith}
-use mathlib.Core.Path.{◌≡◌, refl, ◌∙◌}
+use mathlib.Core.Path.{◌≡◌}
 use Prim.Native.Nat.{◌≤◌, ◌-◌}
 use Rattle.numbers.proofs.in_slots.are_within.Given as goal
 

@@ -5,7 +5,6 @@ use Rattle.kinds.specs.declared.kind.Kind.TheVariants as K
 use Rattle.kinds.specs.Layout.{layout}
 use Rattle.numbers.specs.FromNumbers.{within}
 use Rattle.numbers.proofs.Computed.{range_told}
-use borrow.Author.Rules.{rules}
 use Rattle.numbers.proofs.in_slots.numbers_in_range.Goals as goal
 
 pub returns-in-EndpointDiscovery : goal.returns-in-EndpointDiscovery

@@ -2,7 +2,6 @@
 use mathlib.Core.Path.{sym, ◌∙◌}
 use lib.Seq.{length-take-le}
 use Rattle.numbers.proofs.Computed.{few, slots_put}
-use borrow.Author.Rules.{rules}
 use Rattle.numbers.proofs.in_slots.put_slots.Goals as goal
 
 pub slice_bounds-ns-end : goal.slice_bounds-ns-end

@@ -1,6 +1,5 @@
 -- `of_record::numbers_of` meets its contract, kind by kind.
 use Rattle.numbers.proofs.AsNumbers.{of_record}
-use borrow.Author.Rules.{rules}
 use Rattle.numbers.proofs.of_record.numbers_of.Goals as goal
 
 pub returns-in-EndpointName : goal.returns-in-EndpointName

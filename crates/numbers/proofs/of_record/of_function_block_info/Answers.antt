@@ -1,7 +1,6 @@
 -- `of_record::of_function_block_info` meets its contract, by the numbers of the kind in the table's order.
 use Rattle.numbers.proofs.AsNumbers.{of_record}
 use Rattle.bit_ops.proofs.Parts.{bit_byte}
-use borrow.Author.Rules.{rules}
 use Rattle.numbers.proofs.of_record.of_function_block_info.Goals as goal
 
 pub returns : goal.returns

@@ -1,9 +1,7 @@
 -- `set_one::check_record` meets its contract, by the laws of `Accepted`.
 use mathlib.Core.Path.{sym, ap, ◌∙◌}
-use Rattle.records.specs.declared.answers.Answer.TheVariants as A
 use Rattle.numbers.specs.SetOne.{checked}
-use Rattle.numbers.proofs.Accepted.{from_refused, from_whole, own_status, other_status}
-use borrow.Author.Rules.{rules}
+use Rattle.numbers.proofs.Accepted.{from_refused, from_whole, own_status}
 use Rattle.numbers.proofs.set_one.check_record.Goals as goal
 
 pub returns-then-is_record : goal.returns-then-is_record

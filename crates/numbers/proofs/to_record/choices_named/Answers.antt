@@ -4,7 +4,6 @@ use borrow.Author.Tests.{eq-eqb, ne_eqb}
 use Rattle.laws.proofs.Pick.{here, past}
 use Rattle.numbers.proofs.Accepted.{computed}
 use Rattle.numbers.proofs.OneNumber.{choiceless}
-use borrow.Author.Rules.{rules}
 use Rattle.numbers.proofs.to_record.choices_named.Goals as goal
 
 pub returns-in_default : goal.returns-in_default

@@ -1,7 +1,5 @@
 -- `to_record::fitting_record` meets its contract, kind by kind.
-use Rattle.kinds.specs.declared.kind.Kind.TheVariants as K
-use Rattle.numbers.proofs.Accepted.{computed, fitting}
-use borrow.Author.Rules.{rules}
+use Rattle.numbers.proofs.Accepted.{computed}
 use Rattle.numbers.proofs.to_record.fitting_record.Goals as goal
 
 pub returns-in-EndpointName : goal.returns-in-EndpointName

@@ -3,7 +3,6 @@ use native.Mathlib.Omega.{arith}
 use mathlib.Core.Path.{refl}
 use Rattle.kinds.specs.declared.kind.Kind.TheVariants as K
 use Rattle.numbers.proofs.Accepted.{computed, Small, small}
-use borrow.Author.Rules.{rules}
 use Rattle.numbers.proofs.to_record.function_block_name.Goals as goal
 
 pub overflow_cast-result : goal.overflow_cast-result

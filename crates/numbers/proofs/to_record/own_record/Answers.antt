@@ -3,7 +3,6 @@ use mathlib.Core.Path.{sym, ap, ◌∙◌}
 use Rattle.laws.proofs.Pick.{both_left}
 use Rattle.numbers.specs.declared.to_record.FromNumbers.TheVariants as G
 use Rattle.numbers.proofs.Accepted.{from_refused, from_whole}
-use borrow.Author.Rules.{rules}
 use Rattle.numbers.proofs.to_record.own_record.Goals as goal
 
 pub fitting_record-requires : goal.fitting_record-requires

@@ -1,5 +1,4 @@
 -- `from_words::device_identity` meets its contract, by its definition.
-use borrow.Author.Rules.{rules}
 use Rattle.reading.proofs.Bodies.{from_words}
 use Rattle.reading.proofs.from_words.device_identity.Goals as goal
 

@@ -1,5 +1,4 @@
 -- `from_words::endpoint_info` meets its contract, by its definition.
-use borrow.Author.Rules.{rules}
 use Rattle.reading.proofs.Bodies.{from_words}
 use Rattle.reading.proofs.from_words.endpoint_info.Goals as goal
 

@@ -1,6 +1,5 @@
 -- `from_words::function_block_name` meets its contract, by the slot of the block number.
 use Rattle.reading.proofs.Bodies.{from_words}
-use borrow.Author.Rules.{rules}
 use Rattle.reading.proofs.from_words.function_block_name.Goals as goal
 
 pub returns : goal.returns

@@ -6,7 +6,6 @@ use Rattle.records.specs.declared.answers.Read.TheVariants as R
 use Rattle.standard.specs.Reading.{read_body}
 use Rattle.reading.proofs.Bodies.{from_words, no_text}
 use Rattle.kinds.specs.declared.kind.Kind.TheVariants as K
-use borrow.Author.Rules.{rules}
 use Rattle.reading.proofs.from_words.read_function_block_info.Goals as goal
 
 pub returns-then-crumb-eq3 : goal.returns-then-crumb-eq3

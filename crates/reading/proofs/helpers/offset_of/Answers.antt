@@ -1,7 +1,6 @@
 -- `helpers::offset_of` meets its contract: in every row the text starts at octet 2 or 3.
 use native.Mathlib.Omega.{arith}
 use Rattle.reading.proofs.TextRows.{offset_few}
-use borrow.Author.Rules.{rules}
 use Rattle.reading.proofs.helpers.offset_of.Goals as goal
 
 pub returns : goal.returns

@@ -3,7 +3,6 @@ use mathlib.Core.Path.{sym, ap, ◌∙◌}
 use Rattle.counts.specs.Counts.{packet}
 use Rattle.counts.specs.declared.PacketNumber.{PacketNumber}
 use Rattle.reading.proofs.Passes.{headed_to, headed_words, seen_good, seen_bad}
-use borrow.Author.Rules.{rules}
 use Rattle.reading.proofs.helpers.seen_text.Goals as goal
 
 pub slice_bounds-good_text-end : goal.slice_bounds-good_text-end

@@ -1,9 +1,8 @@
 -- `helpers::text_packets` meets its contract: by its row a kind has no text, or text that is seen.
-use mathlib.Core.Path.{sym, ap, ◌∙◌}
+use mathlib.Core.Path.{ap, ◌∙◌}
 use Rattle.counts.specs.Counts.{packet}
-use Rattle.reading.proofs.TextRows.{one_told, several_told, offset_one}
+use Rattle.reading.proofs.TextRows.{several_told, offset_one}
 use Rattle.reading.proofs.Passes.{text_seen}
-use borrow.Author.Rules.{rules}
 use Rattle.reading.proofs.helpers.text_packets.Goals as goal
 
 pub returns : goal.returns

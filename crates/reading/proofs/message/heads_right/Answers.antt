@@ -3,7 +3,6 @@ use mathlib.Core.Path.{sym, ap, ◌∙◌}
 use Rattle.counts.specs.declared.PacketNumber.{PacketNumber}
 use Rattle.reading.proofs.TextRows.{offset_one}
 use Rattle.reading.proofs.Passes.{too_many, not_many}
-use borrow.Author.Rules.{rules}
 use Rattle.reading.proofs.message.heads_right.Goals as goal
 
 pub returns-then-most_packets-n : goal.returns-then-most_packets-n

@@ -1,13 +1,9 @@
 -- `message::read` meets its contract: each refusal where the definition has it, and a body by what the pass saw of the heads.
 use Prim.Native.Nat.{ℕ}
-use mathlib.Core.Path.{refl, sym, ap, ◌∙◌}
+use mathlib.Core.Path.{sym, ap, ◌∙◌}
 use native.Mathlib.Omega.{arith}
-use borrow.Author.Tests.{lt-ltb, le-ltb}
-use Rattle.laws.proofs.Pick.{here, past, ne_differ, eq_differ}
 use Rattle.kinds.specs.Layout.{kind_of}
-use Rattle.standard.specs.Reading.{read_of}
-use Rattle.reading.proofs.HeadedRead.{all_count, all_long, all_headed, all_rules}
-use borrow.Author.Rules.{rules}
+use Rattle.reading.proofs.HeadedRead.{all_headed, all_rules}
 use Rattle.reading.proofs.message.read.Goals as goal
 
 pub returns-then-heads_right : goal.returns-then-heads_right

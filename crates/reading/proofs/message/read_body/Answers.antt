@@ -6,7 +6,6 @@ use Rattle.kinds.specs.declared.kind.Kind.TheVariants as K
 use Rattle.kinds.specs.Fields.{same, decided}
 use Rattle.kinds.specs.Layout.{layout}
 use Rattle.reading.proofs.Bodies.{plain_body, good_told, bad_told}
-use borrow.Author.Rules.{rules}
 use Rattle.reading.proofs.message.read_body.Goals as goal
 
 pub returns-then-good_text : goal.returns-then-good_text

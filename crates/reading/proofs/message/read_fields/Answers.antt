@@ -3,7 +3,6 @@ use mathlib.Core.Path.{◌∙◌}
 use Rattle.standard.proofs.Rules.{ruled_here, ruled_past}
 use Rattle.reading.specs.Bodies.{fields_read}
 use Rattle.reading.proofs.Repeats.{late_first, none_late}
-use borrow.Author.Rules.{rules}
 use Rattle.reading.proofs.message.read_fields.Goals as goal
 
 pub returns-then-b-packets_of : goal.returns-then-b-packets_of

@@ -6,7 +6,6 @@ use Rattle.standard.specs.Reading.{read_kind}
 use Rattle.standard.proofs.Rules.{ruled_here, ruled_past}
 use Rattle.reading.specs.Rules.{breaks_of}
 use Rattle.reading.specs.Bodies.{fields_read}
-use borrow.Author.Rules.{rules}
 use Rattle.reading.proofs.message.read_kind.Goals as goal
 
 pub returns-then-s-n : goal.returns-then-s-n

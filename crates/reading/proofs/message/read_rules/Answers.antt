@@ -2,7 +2,6 @@
 use Rattle.standard.proofs.Rules.{ruled_here, ruled_past}
 use Rattle.reading.specs.Rules.{breaks_of}
 use Rattle.reading.specs.Bodies.{rules_read}
-use borrow.Author.Rules.{rules}
 use Rattle.reading.proofs.message.read_rules.Goals as goal
 
 pub returns-then-t-packets_of : goal.returns-then-t-packets_of

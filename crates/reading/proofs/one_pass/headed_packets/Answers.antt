@@ -1,13 +1,10 @@
 -- `one_pass::headed_packets` meets its contract. The invariant: what is to be answered is what the packets from p on give.
-use Prim.Native.Nat.{◌-◌}
-use mathlib.Core.Path.{◌≡◌, refl, sym, ap, ◌∙◌}
+use mathlib.Core.Path.{sym, ap, ◌∙◌}
 use borrow.Author.Tests.{eq-eqb, ne_eqb}
 use Rattle.counts.specs.Counts.{packet}
 use Rattle.text.proofs.Heads.{head_in_lem}
 use Rattle.standard.specs.Heads.{format_of}
-use Rattle.reading.specs.OnePass.{headed_from}
 use Rattle.reading.proofs.Passes.{turn_goes, turn_ends, turn_none, turn_over, no_words, other_type, same_type, like_there}
-use borrow.Author.Rules.{rules}
 use Rattle.reading.proofs.one_pass.headed_packets.Goals as goal
 
 pub returns-then-words-eq0 : goal.returns-then-words-eq0

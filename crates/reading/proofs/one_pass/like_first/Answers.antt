@@ -1,11 +1,8 @@
 -- `one_pass::like_first` meets its contract: a packet that is there, and a head that is alike.
-use mathlib.Core.Path.{refl}
-use native.Mathlib.Omega.{arith}
-use borrow.Author.Tests.{le-leb, lt-leb}
-use Rattle.laws.proofs.Pick.{here, past}
+use borrow.Author.Tests.{lt-leb}
+use Rattle.laws.proofs.Pick.{past}
 use Rattle.text.proofs.Heads.{head_in_lem}
 use Rattle.reading.specs.OnePass.{like_first}
-use borrow.Author.Rules.{rules}
 use Rattle.reading.proofs.one_pass.like_first.Goals as goal
 
 pub returns : goal.returns

@@ -1,16 +1,9 @@
 -- `packet::first_end` meets its contract, by the laws of `First` of laws, turn by turn.
 use Prim.Native.Nat.{◌-◌, ◌≤◌}
-use mathlib.Core.Path.{◌≡◌, sym, ap, ◌∙◌}
-use native.Mathlib.Nat.{sub-zero}
-use native.Mathlib.Omega.{arith}
+use mathlib.Core.Path.{◌≡◌}
 use Rattle.laws.specs.First.{first, first_from}
-use Rattle.laws.proofs.First.{first_turn, first_hit, first_end}
-use Rattle.counts.specs.Counts.{packet}
-use Rattle.text.proofs.Heads.{head_in_lem}
 use Rattle.standard.specs.Heads.{packets_of}
 use Rattle.standard.specs.Packet.{ends_message}
-use Rattle.reading.specs.Rules.{ends}
-use borrow.Author.Rules.{rules}
 use Rattle.reading.proofs.packet.first_end.Given as goal
 
 abbrev pub invariant-loop-p : goal.invariant-loop-p

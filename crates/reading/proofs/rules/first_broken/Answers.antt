@@ -1,14 +1,9 @@
 -- `rules::first_broken` meets its contract, by the laws of `First` of laws, turn by turn.
-use Prim.Native.Nat.{◌-◌, ◌≤◌}
-use mathlib.Core.Path.{◌≡◌, sym, ◌∙◌}
-use native.Mathlib.Nat.{sub-zero}
+use mathlib.Core.Path.{sym, ◌∙◌}
 use native.Mathlib.Omega.{arith}
-use Rattle.laws.specs.First.{first, first_from}
 use Rattle.laws.proofs.First.{first_turn, first_hit, first_end}
 use Rattle.text.proofs.Heads.{head_in_lem}
-use Rattle.standard.specs.Heads.{packets_of}
 use Rattle.reading.specs.Rules.{broken_by}
-use borrow.Author.Rules.{rules}
 use Rattle.reading.proofs.rules.first_broken.Goals as goal
 
 pub returns-then-breaks : goal.returns-then-breaks

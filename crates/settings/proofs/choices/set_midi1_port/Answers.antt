@@ -3,7 +3,6 @@ use mathlib.Core.Path.{refl, ◌∙◌}
 use Rattle.kinds.specs.declared.kind.Kind.TheVariants as K
 use Rattle.standard.proofs.Outcome.{said_as}
 use Rattle.settings.proofs.Slots.{facts, set_slot, home_told}
-use borrow.Author.Rules.{rules}
 use Rattle.settings.proofs.choices.set_midi1_port.Goals as goal
 
 pub returns : goal.returns

@@ -5,7 +5,6 @@ use Rattle.kinds.specs.declared.kind.Kind.TheVariants as K
 use Rattle.fields.specs.Puts.{put_ins}
 use Rattle.numbers.specs.BySlot.{fit_from, put_from}
 use Rattle.settings.proofs.Slots.{facts, set_slots}
-use borrow.Author.Rules.{rules}
 use Rattle.standard.proofs.Outcome.{said_as}
 use Rattle.settings.proofs.device_identity.set_device_manufacturer.Goals as goal
 

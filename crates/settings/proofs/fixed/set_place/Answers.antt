@@ -2,7 +2,6 @@
 use mathlib.Core.Path.{sym, ◌∙◌}
 use Rattle.standard.proofs.Outcome.{said}
 use Rattle.settings.proofs.Slots.{place_refused, place_large, place_done}
-use borrow.Author.Rules.{rules}
 use Rattle.settings.proofs.fixed.set_place.Goals as goal
 
 pub returns-then-too_large : goal.returns-then-too_large

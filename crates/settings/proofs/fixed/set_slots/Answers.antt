@@ -3,7 +3,6 @@ use mathlib.Core.Path.{sym, ◌∙◌}
 use Rattle.standard.proofs.Outcome.{said}
 use Rattle.settings.proofs.Settled.{target_told}
 use Rattle.settings.proofs.Slots.{slots_refused, slots_large, slots_done}
-use borrow.Author.Rules.{rules}
 use Rattle.settings.proofs.fixed.set_slots.Goals as goal
 
 pub returns-in-Refused : goal.returns-in-Refused

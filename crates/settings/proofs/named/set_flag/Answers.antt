@@ -2,7 +2,6 @@
 use Rattle.bit_ops.proofs.Parts.{bit_byte}
 use Rattle.standard.proofs.Outcome.{said_as}
 use Rattle.settings.proofs.Places.{flag_put}
-use borrow.Author.Rules.{rules}
 use Rattle.settings.proofs.named.set_flag.Goals as goal
 
 pub returns : goal.returns

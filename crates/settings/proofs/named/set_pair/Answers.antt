@@ -1,7 +1,6 @@
 -- `named::set_pair` meets its contract, by the laws of `Places`.
 use Rattle.standard.proofs.Outcome.{said_as}
 use Rattle.settings.proofs.Places.{pair_put}
-use borrow.Author.Rules.{rules}
 use Rattle.settings.proofs.named.set_pair.Goals as goal
 
 pub returns : goal.returns

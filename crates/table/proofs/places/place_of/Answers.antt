@@ -1,9 +1,7 @@
 -- `places::place_of` meets its contract, by the laws of `PlaceLaws`.
 use native.Mathlib.Omega.{arith}
-use Rattle.kinds.specs.Layout.{layout}
 use Rattle.table.proofs.RowLaws.{row_small}
-use Rattle.table.proofs.PlaceLaws.{past, place_told}
-use borrow.Author.Rules.{rules}
+use Rattle.table.proofs.PlaceLaws.{place_told}
 use Rattle.table.proofs.places.place_of.Goals as goal
 
 pub overflow_add-row : goal.overflow_add-row

@@ -1,7 +1,6 @@
 -- `rows::head_of` meets its contract, by the laws of `RowLaws`.
 use native.Mathlib.Omega.{arith}
 use Rattle.table.proofs.RowLaws.{row_small}
-use borrow.Author.Rules.{rules}
 use Rattle.table.proofs.rows.head_of.Goals as goal
 
 pub overflow_mul-result : goal.overflow_mul-result

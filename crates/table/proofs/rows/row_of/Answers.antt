@@ -1,7 +1,6 @@
 -- `rows::row_of` meets its contract, by the laws of `RowLaws`.
 use Rattle.kinds.specs.declared.kind.Kind.TheVariants as K
 use Rattle.table.proofs.RowLaws.{computed, row_told}
-use borrow.Author.Rules.{rules}
 use Rattle.table.proofs.rows.row_of.Goals as goal
 
 pub returns-in-EndpointDiscovery : goal.returns-in-EndpointDiscovery

@@ -2,7 +2,6 @@
 use mathlib.Core.Path.{sym, ◌∙◌}
 use native.Mathlib.Omega.{arith}
 use Rattle.text.proofs.BigEndian.{big_endian_in, big_endian_out, swap_back}
-use borrow.Author.Rules.{rules}
 use Rattle.text.proofs.big_endian.big_endian.Goals as goal
 
 pub returns-then-bytes-lt4 : goal.returns-then-bytes-lt4

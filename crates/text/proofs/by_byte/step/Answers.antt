@@ -1,14 +1,8 @@
 -- `text::by_byte::step` meets its contract. Invariant: the step from the current place is the step from the given place.
-use Prim.Native.Nat.{ℕ, ◌-◌, ◌*◌, ◌<◌}
-use mathlib.Core.Path.{◌≡◌, refl, sym, ◌∙◌}
-use mathlib.Core.List.{List}
+use mathlib.Core.Path.{sym, ◌∙◌}
 use native.Mathlib.Omega.{arith}
-use Rattle.text.specs.Place.{byte_from, step_at}
-use Rattle.text.specs.declared.TextPlace.{TextPlace}
-use Rattle.text.proofs.Place.{byte_in, next_back, next_low, place_inside, step_past, step_over, step_zero, step_byte}
-use borrow.Author.Rules.{rules}
+use Rattle.text.proofs.Place.{byte_in, next_low, step_past, step_over, step_zero, step_byte}
 use Rattle.text.proofs.by_byte.step.Goals as goal
-use Rattle.text.proofs.by_byte.step.Invariants.{Sought}
 
 pub returns-then-offset-ge14 : goal.returns-then-offset-ge14
 returns-then-offset-ge14 c = c.end_at.ensures ∙ sym (step_over _ _ c.args.at (omega arith))

@@ -1,12 +1,9 @@
 -- `text::by_byte::step` meets its contract. Invariant: the step from the current place is the step from the given place.
 use Prim.Native.Nat.{ℕ, ◌-◌, ◌*◌, ◌<◌}
-use mathlib.Core.Path.{◌≡◌, refl, sym, ◌∙◌}
+use mathlib.Core.Path.{◌≡◌}
 use mathlib.Core.List.{List}
-use native.Mathlib.Omega.{arith}
 use Rattle.text.specs.Place.{byte_from, step_at}
 use Rattle.text.specs.declared.TextPlace.{TextPlace}
-use Rattle.text.proofs.Place.{byte_in, next_back, next_low, place_inside, step_past, step_over, step_zero, step_byte}
-use borrow.Author.Rules.{rules}
 use Rattle.text.proofs.by_byte.step.Given as goal
 
 pub record Sought (ws : List ℕ) (cap : ℕ) (at place : TextPlace) : Type 0 where

@@ -2,7 +2,6 @@
 use mathlib.Core.Path.{sym}
 use native.Mathlib.Omega.{arith}
 use Rattle.text.proofs.Heads.{head_in_lem, head_out, starts_at}
-use borrow.Author.Rules.{rules}
 use Rattle.text.proofs.packets.head_at.Goals as goal
 
 pub returns-then-packets_of-packet : goal.returns-then-packets_of-packet

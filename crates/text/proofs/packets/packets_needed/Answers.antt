@@ -1,7 +1,6 @@
 -- `packets::packets_needed` meets its contract, by the laws of `Needed`.
 use native.Mathlib.Omega.{arith}
-use Rattle.text.proofs.Needed.{needed_few, needed_without, needed_last, packets_fit}
-use borrow.Author.Rules.{rules}
+use Rattle.text.proofs.Needed.{needed_few, needed_without, needed_last}
 use Rattle.text.proofs.packets.packets_needed.Goals as goal
 
 pub returns-then-bytes-capacity : goal.returns-then-bytes-capacity

@@ -1,11 +1,10 @@
 -- `bytes::is_good` meets its contract: after the skipped bytes, the rest decides.
-use mathlib.Core.Path.{refl, ◌∙◌}
+use mathlib.Core.Path.{refl}
 use native.Mathlib.Omega.{arith}
 use Rattle.utf8.specs.Scan.{new_scan}
 use Rattle.text_check.specs.FastCheck.{none_open}
 use Rattle.text_check.proofs.Progress.{answer_start}
 use Rattle.text_check.proofs.Skips.{skip_at, bytes_finish}
-use borrow.Author.Rules.{rules}
 use Rattle.text_check.proofs.bytes.is_good.Goals as goal
 
 pub returns-then-i-text : goal.returns-then-i-text

@@ -1,14 +1,9 @@
 -- `bytes::is_good_from` meets its contract. Invariant: the check has reached byte i, and its answer will be right.
-use Prim.Native.Nat.{◌+◌, ◌-◌, ◌≤◌}
-use mathlib.Core.Path.{◌∙◌}
-use native.Mathlib.Omega.{arith}
-use Rattle.laws.proofs.Pick.{told}
+use Prim.Native.Nat.{◌-◌, ◌≤◌}
 use lib.ListN.{length, drop}
 use Rattle.utf8.specs.Utf8.{first_bad}
 use Rattle.text_check.specs.FastCheck.{is_good}
-use Rattle.text_check.proofs.Progress.{answer_start, answer_stopped}
-use Rattle.text_check.proofs.Skips.{AtByte, bytes_turn, skip_at, bytes_finish}
-use borrow.Author.Rules.{rules}
+use Rattle.text_check.proofs.Skips.{AtByte}
 use Rattle.text_check.proofs.bytes.is_good_from.Given as goal
 
 abbrev pub invariant-loop-i : goal.invariant-loop-i

@@ -1,11 +1,7 @@
 -- `bytes::skip_ascii` meets its contract. Invariant: the bytes before byte i are whole characters.
-use Prim.Native.Nat.{◌-◌}
 use native.Mathlib.Omega.{arith}
-use lib.ListN.{length}
 use Rattle.laws.proofs.Pick.{told}
-use Rattle.text_check.specs.FastCheck.{Skipped}
-use Rattle.text_check.proofs.Skips.{skip_none, skip_more, skip_four}
-use borrow.Author.Rules.{rules}
+use Rattle.text_check.proofs.Skips.{skip_more, skip_four}
 use Rattle.text_check.proofs.bytes.skip_ascii.Goals as goal
 
 pub loop-i-preserved : goal.loop-i-preserved

@@ -1,10 +1,6 @@
 -- `bytes::skip_by_words` meets its contract. Invariant: the bytes before byte i are whole characters.
-use Prim.Native.Nat.{◌-◌}
 use native.Mathlib.Omega.{arith}
-use lib.ListN.{length}
-use Rattle.text_check.specs.FastCheck.{Skipped}
-use Rattle.text_check.proofs.Skips.{skip_none, skip_more, skip_word, whole_most}
-use borrow.Author.Rules.{rules}
+use Rattle.text_check.proofs.Skips.{skip_more, skip_word, whole_most}
 use Rattle.text_check.proofs.bytes.skip_by_words.Goals as goal
 
 pub overflow_add-i : goal.overflow_add-i

@@ -4,7 +4,6 @@ use native.Mathlib.Omega.{arith}
 use lib.ListN.{length}
 use Rattle.laws.proofs.Pick.{told}
 use Rattle.text_check.proofs.Skips.{skip_left, skip_last_three}
-use borrow.Author.Rules.{rules}
 use Rattle.text_check.proofs.bytes.skip_last.Goals as goal
 
 pub returns-then-ascii_word : goal.returns-then-ascii_word

@@ -1,11 +1,7 @@
 -- `bytes::skip_runs` meets its contract. Invariant: the bytes before byte i are whole characters.
 use Prim.Native.Nat.{◌-◌}
-use native.Mathlib.Omega.{arith}
 use lib.ListN.{length}
-use Rattle.laws.proofs.Pick.{told}
 use Rattle.text_check.specs.FastCheck.{Skipped}
-use Rattle.text_check.proofs.Skips.{skip_none, skip_more, skip_run}
-use borrow.Author.Rules.{rules}
 use Rattle.text_check.proofs.bytes.skip_runs.Given as goal
 
 abbrev pub invariant-loop-i : goal.invariant-loop-i

@@ -1,11 +1,10 @@
 -- `helpers::ascii_packet` meets its contract: the packet is whole, and its four words are tested as one.
-use Prim.Native.Nat.{ℕ, ◌+◌, ◌*◌, ◌/◌, ◌^◌, ◌≤◌, ◌<◌}
-use mathlib.Core.Path.{◌≡◌, refl, sym, ap, ◌∙◌}
+use Prim.Native.Nat.{ℕ, ◌*◌, ◌/◌, ◌<◌}
+use mathlib.Core.Path.{◌≡◌, sym, ap, ◌∙◌}
 use native.Mathlib.Omega.{arith}
 use lib.ListN.{length}
-use borrow.Author.Rules.{rules}
-use borrow.Author.Tests.{le-leb, lt-leb}
-use Rattle.laws.proofs.Pick.{here, past}
+use borrow.Author.Tests.{lt-leb}
+use Rattle.laws.proofs.Pick.{past}
 use Rattle.counts.specs.declared.WordNumber.{WordNumber}
 use Rattle.counts.proofs.Wraps.{first-word}
 use Rattle.text_check.specs.FastCheck.{ascii_packet}

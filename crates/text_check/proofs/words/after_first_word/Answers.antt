@@ -3,7 +3,6 @@ use mathlib.Core.Path.{sym}
 use native.Mathlib.Omega.{arith}
 use Rattle.laws.proofs.Pick.{told}
 use Rattle.text_check.proofs.KnownSteps.{second_half_known, last_octet_known}
-use borrow.Author.Rules.{rules}
 use Rattle.text_check.proofs.words.after_first_word.Goals as goal
 
 pub overflow_add-result : goal.overflow_add-result

@@ -2,7 +2,6 @@
 use Rattle.laws.proofs.Pick.{told}
 use Rattle.laws.proofs.EachBelow.{four_hold}
 use Rattle.text_check.proofs.KnownSteps.{ascii_word_stays}
-use borrow.Author.Rules.{rules}
 use Rattle.text_check.proofs.words.after_packet.Goals as goal
 
 pub returns-then-ascii_words : goal.returns-then-ascii_words

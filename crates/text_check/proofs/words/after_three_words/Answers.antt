@@ -2,7 +2,6 @@
 use mathlib.Core.Path.{sym}
 use Rattle.laws.proofs.Pick.{told}
 use Rattle.text_check.proofs.KnownSteps.{twelve_known}
-use borrow.Author.Rules.{rules}
 use Rattle.text_check.proofs.words.after_three_words.Goals as goal
 
 pub returns-then-run_of_twelve : goal.returns-then-run_of_twelve

@@ -4,7 +4,6 @@ use native.Mathlib.Omega.{arith}
 use Rattle.laws.proofs.Pick.{told}
 use Rattle.text.specs.Octets.{octet_of}
 use Rattle.text_check.proofs.KnownSteps.{ascii_word_stays, four_known, first_half_known}
-use borrow.Author.Rules.{rules}
 use Rattle.text_check.proofs.words.after_word.Goals as goal
 
 pub overflow_add-result : goal.overflow_add-result

@@ -1,12 +1,8 @@
 -- `words::leading_ascii_packets` meets its contract. Invariant: the first p packets are ASCII.
 use Prim.Native.Nat.{◌-◌, ◌/◌}
-use mathlib.Core.Path.{◌≡◌, ap}
+use mathlib.Core.Path.{◌≡◌}
 use lib.ListN.{length}
-use Rattle.laws.proofs.Pick.{told}
-use Rattle.counts.specs.declared.PacketNumber.{PacketNumber}
 use Rattle.text_check.specs.FastCheck.{AsciiStart}
-use Rattle.text_check.proofs.AsciiPackets.{ascii-none, ascii_more}
-use borrow.Author.Rules.{rules}
 use Rattle.text_check.proofs.words.leading_ascii_packets.Given as goal
 
 abbrev pub invariant-loop-p : goal.invariant-loop-p

@@ -1,14 +1,9 @@
 -- `count::text_length` meets its contract. Invariant: the count, and the length of the text from packet p on, are the text's length.
 use Prim.Native.Nat.{◌+◌, ◌-◌, ◌*◌, ◌/◌, ◌≤◌}
-use mathlib.Core.Path.{◌≡◌, ap, ◌∙◌}
-use native.Mathlib.Omega.{arith}
+use mathlib.Core.Path.{◌≡◌}
 use lib.ListN.{length}
-use Rattle.counts.specs.declared.PacketNumber.{PacketNumber}
 use Rattle.text.specs.Bytes.{text_of}
-use Rattle.text_copy.specs.Words.{packet_text}
-use Rattle.text_copy.specs.declared.words.TextWords.{TextWords}
-use Rattle.text_copy.proofs.Packets.{left, left_all, length_more, left_none}
-use borrow.Author.Rules.{rules}
+use Rattle.text_copy.proofs.Packets.{left}
 use Rattle.text_copy.proofs.count.text_length.Given as goal
 
 abbrev pub invariant-loop-p : goal.invariant-loop-p

@@ -6,7 +6,6 @@ use native.Mathlib.Omega.{arith}
 use lib.ListN.{length}
 use Rattle.laws.specs.Lists.{nonzero}
 use Rattle.text_copy.proofs.Packets.{four_joined, four_lengths, listed}
-use borrow.Author.Rules.{rules}
 use Rattle.text_copy.proofs.count.word_length.Goals as goal
 
 pub returns : goal.returns

@@ -4,7 +4,6 @@ use mathlib.Core.List.{[], ◌∷◌}
 use Rattle.laws.specs.Lists.{nonzero}
 use Rattle.ascii_lines.proofs.Page.{◌⨾◌, says}
 use Rattle.text_copy.proofs.Packets.{four_joined, listed}
-use borrow.Author.Rules.{rules}
 use Rattle.text_copy.proofs.put.put_each.Goals as goal
 
 pub returns : goal.returns

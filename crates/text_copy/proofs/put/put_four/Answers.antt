@@ -1,8 +1,6 @@
 -- `put::put_four` meets its contract: four stores, each of which keeps the length.
-use lib.ListN.{length-set}
 use Rattle.ascii_lines.proofs.Page.{says}
 use Rattle.text_copy.proofs.Packets.{listed, put_four_here}
-use borrow.Author.Rules.{rules}
 use Rattle.text_copy.proofs.put.put_four.Goals as goal
 
 pub returns : goal.returns

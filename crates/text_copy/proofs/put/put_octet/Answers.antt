@@ -3,7 +3,6 @@ use mathlib.Core.Path.{sym, ◌∙◌}
 use mathlib.Core.List.{[]}
 use Rattle.laws.proofs.Lists.{nonzero-none, nonzero_zero, nonzero_kept}
 use Rattle.ascii_lines.proofs.Page.{nothing, says}
-use borrow.Author.Rules.{rules}
 use Rattle.text_copy.proofs.put.put_octet.Goals as goal
 
 pub returns-then-octet-eq0 : goal.returns-then-octet-eq0

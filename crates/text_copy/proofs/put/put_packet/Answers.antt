@@ -1,6 +1,5 @@
 -- `put::put_packet` meets its contract: one word after the other.
 use Rattle.ascii_lines.proofs.Page.{◌⨾◌}
-use borrow.Author.Rules.{rules}
 use Rattle.text_copy.proofs.put.put_packet.Goals as goal
 
 pub returns : goal.returns

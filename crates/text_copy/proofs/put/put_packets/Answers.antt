@@ -1,13 +1,10 @@
 -- `put::put_packets` meets its contract. Invariant: writing the text of the packets from p on gives the whole text written.
-use Prim.Native.Nat.{◌-◌, ◌/◌, ◌≤◌}
-use mathlib.Core.Path.{◌≡◌, refl, ap, ◌∙◌}
+use mathlib.Core.Path.{refl, ap, ◌∙◌}
 use native.Mathlib.Omega.{arith}
-use lib.ListN.{length}
 use Rattle.counts.specs.declared.PacketNumber.{PacketNumber}
-use Rattle.text.specs.Bytes.{text_of}
-use Rattle.ascii_lines.proofs.Page.{says, ToWrite, to_write_all, to_write_turn, to_write_none}
+use Rattle.ascii_lines.proofs.Page.{says, to_write_all, to_write_turn, to_write_none}
 use Rattle.text_copy.specs.Words.{packet_text}
-use Rattle.text_copy.proofs.Packets.{left, left_all, left_more, left_none}
+use Rattle.text_copy.proofs.Packets.{left_all, left_more, left_none}
 use borrow.Author.Rules.{rules}
 use Rattle.text_copy.proofs.put.put_packets.Goals as goal
 

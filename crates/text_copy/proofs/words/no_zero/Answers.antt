@@ -1,8 +1,6 @@
 -- `words::no_zero` meets its contract: one test for each octet.
-use mathlib.Core.Path.{sym}
 use native.Mathlib.Nat.{div-one}
 use borrow.Author.Tests.{eqb-false, not-true}
-use Rattle.laws.proofs.Pick.{true_false}
 use Rattle.text.specs.Octets.{octet_of}
 use Rattle.text_copy.proofs.Packets.{none_zero}
 use Rattle.text_copy.proofs.words.no_zero.Goals as goal

@@ -5,7 +5,6 @@ use Rattle.kinds.specs.declared.kind.Kind.TheVariants as K
 use Rattle.standard.proofs.Outcome.{said_as}
 use Rattle.text_settings.proofs.Rows.{text_facts, set_text}
 use Rattle.text_settings.proofs.Heads.{plain_head}
-use borrow.Author.Rules.{rules}
 use Rattle.text_settings.proofs.product_instance_id.set_id.Goals as goal
 
 pub set_text-requires : goal.set_text-requires

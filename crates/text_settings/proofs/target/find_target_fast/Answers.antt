@@ -1,7 +1,6 @@
 -- `target::find_target_fast` meets its contract: a single packet is what the walk finds.
 use mathlib.Core.Path.{sym, ◌∙◌}
 use Rattle.text_settings.proofs.Singles.{single_target}
-use borrow.Author.Rules.{rules}
 use Rattle.text_settings.proofs.target.find_target_fast.Goals as goal
 
 pub returns-then-is_single_ascii_packet : goal.returns-then-is_single_ascii_packet

@@ -4,7 +4,6 @@ use native.Mathlib.Omega.{arith}
 use Rattle.counts.specs.declared.PacketNumber.{PacketNumber}
 use Rattle.settings.specs.declared.helpers.Target.TheVariants as T
 use Rattle.text_settings.proofs.Targets.{seen_target}
-use borrow.Author.Rules.{rules}
 use Rattle.text_settings.proofs.target.find_text_target.Goals as goal
 
 pub returns-then-packets-ne0 : goal.returns-then-packets-ne0

@@ -1,6 +1,5 @@
 -- `texts::find_room` meets its contract, by the laws of `Plans`.
 use Rattle.text_settings.proofs.Plans.{room_many, room_short, room_enough}
-use borrow.Author.Rules.{rules}
 use Rattle.text_settings.proofs.texts.find_room.Goals as goal
 
 pub returns-then-n-gt64 : goal.returns-then-n-gt64

@@ -1,7 +1,6 @@
 -- `texts::plan_text` meets its contract, by the laws of `Plans`.
 use mathlib.Core.Path.{sym, ◌∙◌}
 use Rattle.text_settings.proofs.Plans.{plan_bad, plan_good}
-use borrow.Author.Rules.{rules}
 use Rattle.text_settings.proofs.texts.plan_text.Goals as goal
 
 pub returns-in-BadAt : goal.returns-in-BadAt

@@ -4,7 +4,6 @@ use native.Mathlib.Omega.{arith}
 use Rattle.reading.proofs.TextRows.{offset_few}
 use Rattle.standard.proofs.Outcome.{said}
 use Rattle.text_settings.proofs.Plans.{text_refused, text_planless, text_done}
-use borrow.Author.Rules.{rules}
 use Rattle.text_settings.proofs.texts.set_text.Goals as goal
 
 pub overflow_sub-offset : goal.overflow_sub-offset

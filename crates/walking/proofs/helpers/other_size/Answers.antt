@@ -4,7 +4,6 @@ use Rattle.counts.specs.Counts.{word}
 use Rattle.counts.specs.declared.WordNumber.{WordNumber}
 use Rattle.standard.specs.Walk.{size_of}
 use Rattle.walking.proofs.Other.{size_end, size_stream, size_short, size_whole, size_one}
-use borrow.Author.Rules.{rules}
 use Rattle.walking.proofs.helpers.other_size.Goals as goal
 
 pub returns-then-words-pos : goal.returns-then-words-pos

@@ -1,7 +1,6 @@
 -- `fresh::fresh` meets its contract, by the laws of `Blank` and `Outcome` of standard.
 use mathlib.Core.Path.{sym, ◌∙◌}
 use Rattle.writing.proofs.Blank.{fresh_unknown, fresh_short, fresh_done}
-use borrow.Author.Rules.{rules}
 use Rattle.standard.proofs.Outcome.{said}
 use Rattle.writing.proofs.fresh.fresh.Goals as goal
 

@@ -2,7 +2,6 @@
 use native.Mathlib.Omega.{arith}
 use Rattle.table.proofs.RowLaws.{row_small}
 use Rattle.writing.proofs.Blank.{head_row}
-use borrow.Author.Rules.{rules}
 use Rattle.writing.proofs.fresh.fresh_head.Goals as goal
 
 pub overflow_add-result : goal.overflow_add-result

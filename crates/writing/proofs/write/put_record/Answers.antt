@@ -1,7 +1,6 @@
 -- `write::put_record` meets its contract, by the laws of `Cases`.
 use mathlib.Core.Path.{◌∙◌}
 use Rattle.writing.proofs.Cases.{put_told}
-use borrow.Author.Rules.{rules}
 use Rattle.writing.proofs.write.put_record.Goals as goal
 
 pub returns : goal.returns

@@ -3,7 +3,6 @@ use mathlib.Core.Path.{sym, ◌∙◌}
 use borrow.Author.Tests.{lt-ltb, le-ltb}
 use Rattle.standard.proofs.Outcome.{said}
 use Rattle.writing.proofs.Cases.{write_text, fixed_kind, text_told, fits_told, write_large, write_short, write_done}
-use borrow.Author.Rules.{rules}
 use Rattle.writing.proofs.write.write.Goals as goal
 
 pub returns : goal.returns

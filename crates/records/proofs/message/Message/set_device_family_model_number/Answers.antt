@@ -1,5 +1,4 @@
 -- Setting `device_family_model_number` on a record.
-use borrow.Author.Rules.{rules}
 use Rattle.kinds.specs.declared.kind.Kind.TheVariants as K
 use Rattle.records.proofs.Methods.{table, other, refused_large, set_done, small_pair, large_pair, refl}
 use Rattle.records.proofs.message.Message.set_device_family_model_number.Goals as goal

@@ -1,6 +1,5 @@
 -- Setting `id` on a record.
 use mathlib.Core.Path.{◌∙◌}
-use borrow.Author.Rules.{rules}
 use Rattle.records.proofs.Settings.{no_text}
 use Rattle.records.proofs.message.Message.set_id.Goals as goal
 

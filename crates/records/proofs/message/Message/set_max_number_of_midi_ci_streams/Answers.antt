@@ -1,5 +1,4 @@
 -- Setting `max_number_of_midi_ci_streams` on a record.
-use borrow.Author.Rules.{rules}
 use Rattle.kinds.specs.declared.kind.Kind.TheVariants as K
 use Rattle.records.proofs.Methods.{table, other, refused_large, set_done, small, large, refl, bit_flag, hint_back, port_back, direction_back}
 use Rattle.records.proofs.message.Message.set_max_number_of_midi_ci_streams.Goals as goal

@@ -1,5 +1,4 @@
 -- Setting `midi_ci_version` on a record.
-use borrow.Author.Rules.{rules}
 use Rattle.kinds.specs.declared.kind.Kind.TheVariants as K
 use Rattle.records.proofs.Methods.{table, other, refused_large, set_done, small, large, refl, bit_flag, hint_back, port_back, direction_back}
 use Rattle.records.proofs.message.Message.set_midi_ci_version.Goals as goal

@@ -1,5 +1,4 @@
 -- Setting `number_of_function_blocks` on a record.
-use borrow.Author.Rules.{rules}
 use Rattle.kinds.specs.declared.kind.Kind.TheVariants as K
 use Rattle.records.proofs.Methods.{table, other, refused_large, set_done, small, large, refl, bit_flag}
 use Rattle.records.proofs.message.Message.set_number_of_function_blocks.Goals as goal

@@ -1,5 +1,4 @@
 -- Setting `request_stream_configuration` on a record.
-use borrow.Author.Rules.{rules}
 use Rattle.kinds.specs.declared.kind.Kind.TheVariants as K
 use Rattle.records.proofs.Methods.{table, other, flag_done, refl, bit_flag}
 use Rattle.records.proofs.message.Message.set_request_stream_configuration.Goals as goal

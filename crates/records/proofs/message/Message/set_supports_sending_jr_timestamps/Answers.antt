@@ -1,5 +1,4 @@
 -- Setting `supports_sending_jr_timestamps` on a record.
-use borrow.Author.Rules.{rules}
 use Rattle.kinds.specs.declared.kind.Kind.TheVariants as K
 use Rattle.records.proofs.Methods.{table, other, flag_done, refl, bit_flag}
 use Rattle.records.proofs.message.Message.set_supports_sending_jr_timestamps.Goals as goal

@@ -1,6 +1,5 @@
 -- Setting `ui_hint` on a record.
 use mathlib.Core.Path.{◌∙◌}
-use borrow.Author.Rules.{rules}
 use Rattle.kinds.specs.declared.kind.Kind.TheVariants as K
 use Rattle.records.proofs.Settings.{made}
 use Rattle.records.proofs.Methods.{table, other, small_hint, refl, bit_flag, hint_back, port_back, direction_back}

@@ -1,7 +1,5 @@
 -- Setting `ump_version_minor` on a record.
 use mathlib.Core.Path.{◌∙◌}
-use mathlib.Core.Logic.{⊎_elim}
-use borrow.Author.Rules.{rules}
 use Rattle.records.proofs.Settings.{too_large, made}
 use Rattle.records.proofs.Methods.{table, no_version, small, large, refl, bit_flag}
 use Rattle.records.proofs.message.Message.set_ump_version_minor.Goals as goal
@@ -24,6 +22,6 @@ unfolding table
 returns c =
     c.done.ensures
     ∙ elim c.match-self.branch [
-      in-EndpointDiscovery+else-number-gt255 w ↦ rw (w.self-is, w.in-EndpointDiscovery.is) (made _ _ refl (small _ _ _ w.if-number-gt255.false refl) (simp bit_flag))
-    | in-EndpointInfo+else-number-gt255-2 w ↦ rw (w.self-is, w.in-EndpointInfo.is) (made _ _ refl (small _ _ _ w.if-number-gt255-2.false refl) (simp bit_flag))
+      | in-EndpointDiscovery+else-number-gt255 w ↦ rw (w.self-is, w.in-EndpointDiscovery.is) (made _ _ refl (small _ _ _ w.if-number-gt255.false refl) (simp bit_flag))
+      | in-EndpointInfo+else-number-gt255-2 w ↦ rw (w.self-is, w.in-EndpointInfo.is) (made _ _ refl (small _ _ _ w.if-number-gt255-2.false refl) (simp bit_flag))
     ]
