@@ -18,7 +18,7 @@ pub returns-in-Stopped : goal.returns-in-Stopped
 returns-in-Stopped c =
     let text = c.args.text.now in
     let byte : AtByte text (is_good (first_bad (drop c.args.from text))) c.after_byte-s.result (c.loop-i.i + 1) =
-        rw c.after_byte-s.ensures (bytes_turn _ _ (λ k. (c.type_inv.text k).fits) _ _ c.loop-i-test.true c.loop-i.invariant.1) in
+    rw c.after_byte-s.ensures (bytes_turn _ _ (λ k. (c.type_inv.text k).fits) _ _ c.loop-i-test.true c.loop-i.invariant.1) in
     answer_stopped _ _ _ _ c.in-Stopped.is byte
 
 pub loop-i-preserved-then-none_open : goal.loop-i-preserved-then-none_open

@@ -24,8 +24,8 @@ returns-then-s-eq-BAD c =
     let first : c.first_word-first.result.0 ≡ c.loop-p.p * 4 = ap (λ (w : WordNumber). w.0) (c.first_word-first.ensures ∙ first-word c.loop-p.p (omega (arith, h))) in
     let ws = c.args.words.now in
     let passed : AtPacket ws c.args.offset c.after_packet-s.result (c.loop-p.p + 1) (length ws / 4) =
-        rw (c.after_packet-s.ensures, first, c.text_mask-m3.ensures, c.text_mask-m2.ensures, c.text_mask-m1.ensures, c.text_mask-m0.ensures)
-        (packets_turn ws c.args.offset c.loop-p.s c.loop-p.p _ h c.loop-p.invariant.2) in
+    rw (c.after_packet-s.ensures, first, c.text_mask-m3.ensures, c.text_mask-m2.ensures, c.text_mask-m1.ensures, c.text_mask-m0.ensures)
+    (packets_turn ws c.args.offset c.loop-p.s c.loop-p.p _ h c.loop-p.invariant.2) in
     answer_bad _ _ _ c.if-s-eq-BAD.true passed
 
 pub loop-p-preserved : goal.loop-p-preserved
@@ -34,8 +34,8 @@ loop-p-preserved c =
     let first : c.first_word-first.result.0 ≡ c.loop-p.p * 4 = ap (λ (w : WordNumber). w.0) (c.first_word-first.ensures ∙ first-word c.loop-p.p (omega (arith, h))) in
     let ws = c.args.words.now in
     let passed : AtPacket ws c.args.offset c.after_packet-s.result (c.loop-p.p + 1) (length ws / 4) =
-        rw (c.after_packet-s.ensures, first, c.text_mask-m3.ensures, c.text_mask-m2.ensures, c.text_mask-m1.ensures, c.text_mask-m0.ensures)
-        (packets_turn ws c.args.offset c.loop-p.s c.loop-p.p _ h c.loop-p.invariant.2) in
+    rw (c.after_packet-s.ensures, first, c.text_mask-m3.ensures, c.text_mask-m2.ensures, c.text_mask-m1.ensures, c.text_mask-m0.ensures)
+    (packets_turn ws c.args.offset c.loop-p.s c.loop-p.p _ h c.loop-p.invariant.2) in
     (search rules, c.loop-p.invariant.1, passed)
 
 pub returns : goal.returns

@@ -24,6 +24,6 @@ unfolding table
 returns c =
     c.done.ensures
     ∙ elim c.match-self.branch [
-      in-EndpointDiscovery+else-number-gt255 w ↦ rw (w.self-is, w.in-EndpointDiscovery.is) (made _ _ refl (small _ _ _ w.if-number-gt255.false refl) (simp bit_flag))
-    | in-EndpointInfo+else-number-gt255-2 w ↦ rw (w.self-is, w.in-EndpointInfo.is) (made _ _ refl (small _ _ _ w.if-number-gt255-2.false refl) (simp bit_flag))
+      | in-EndpointDiscovery+else-number-gt255 w ↦ rw (w.self-is, w.in-EndpointDiscovery.is) (made _ _ refl (small _ _ _ w.if-number-gt255.false refl) (simp bit_flag))
+      | in-EndpointInfo+else-number-gt255-2 w ↦ rw (w.self-is, w.in-EndpointInfo.is) (made _ _ refl (small _ _ _ w.if-number-gt255-2.false refl) (simp bit_flag))
     ]
