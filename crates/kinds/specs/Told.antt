@@ -140,7 +140,7 @@ pub record ToldTable : Type 0 where
   -- function-block-info: in word 0 active bit 15, number bits 14..8, hint, port and direction two bits each from bit 5 down; in word 1 group bits 27..24, then three octets
   pub block : Holds K.FunctionBlockInfo some_block (0xF011ED27 ∷ 0x09A1B2C4 ∷ 0 ∷ 0 ∷ []) (0xFFFFEDE7 ∷ 0xF9A1B2C4 ∷ 0xFFFFFFFF ∷ 0xFFFFFFFF ∷ [])
   pub other_block : Holds K.FunctionBlockInfo other_block_info (0xF011121A ∷ 0 ∷ 0 ∷ 0 ∷ []) (0xFFFF12DA ∷ 0xF0000000 ∷ 0xFFFFFFFF ∷ 0xFFFFFFFF ∷ [])
-  -- function_block_name: block number in octet 2 of word 0
+  -- function-block-name: block number in octet 2 of word 0
   pub block-name : Holds K.FunctionBlockName (Setting.number Number.function_block 0xD6 ∷ []) (0xF012D600 ∷ 0 ∷ 0 ∷ 0 ∷ []) (0xFFFFD6FF ∷ 0xFFFFFFFF ∷ 0xFFFFFFFF ∷ 0xFFFFFFFF ∷ [])
   -- block info starts with direction 3, all else 0; the two names have no field but their text
   pub starts : map (λ k. put_in k [] (bare k)) kinds ≡ (0xF0000000 ∷ 0 ∷ 0 ∷ 0 ∷ []) ∷ (0xF0010000 ∷ 0 ∷ 0 ∷ 0 ∷ []) ∷ (0xF0020000 ∷ 0 ∷ 0 ∷ 0 ∷ []) ∷ (0xF0030000 ∷ 0 ∷ 0 ∷ 0 ∷ []) ∷ (0xF0040000 ∷ 0 ∷ 0 ∷ 0 ∷ []) ∷ (0xF0110003 ∷ 0 ∷ 0 ∷ 0 ∷ []) ∷ (0xF0120000 ∷ 0 ∷ 0 ∷ 0 ∷ []) ∷ []

@@ -24,7 +24,7 @@ fn mixed(kind: usize) -> Plan {
     }
 }
 
-// A run in the first n words of a buffer, at most 263: sixty_five packets and a tail of three words.
+// A run in the first n words of a buffer, at most 263: sixty-five packets and a tail of three words.
 fn in_words(n: usize, plan: Plan, pool: &[u8], tally: &mut [u64]) {
     let mut words = [0u32; 263];
     let mut again = [0u32; 263];
@@ -49,7 +49,7 @@ fn put_tally(out: &mut [u8], at: usize, name: &[u8], tally: &[u64]) -> usize {
     ascii_lines::put_byte(out, p, b'\n')
 }
 
-// The line of a kind in buffers of one to sixty_five packets, most with a tail, and its tally added to that of all.
+// The line of a kind in buffers of one to sixty-five packets, most with a tail, and its tally added to that of all.
 fn put_kind(
     out: &mut [u8],
     at: usize,

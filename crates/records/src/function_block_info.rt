@@ -22,7 +22,7 @@ pub struct FunctionBlockInfo {
     pub max_number_of_midi_ci_streams: u8,
 }
 
-// The block with these choices. It is built anew, since the prover does not cover a store to an enum field.
+// The block with these choices.
 fn chosen(
     block: FunctionBlockInfo,
     hint: UiHint,
