@@ -1,4 +1,4 @@
--- `big_endian::big_endian` meets its contract, by the laws of `BigEndian`: the little_endian word, swapped.
+-- `big_endian::big_endian` meets its contract, by the laws of `BigEndian`: the little-endian word, swapped.
 use mathlib.Core.Path.{sym, ◌∙◌}
 use native.Mathlib.Omega.{arith}
 use Rattle.text.proofs.BigEndian.{big_endian_in, big_endian_out, swap_back}
