@@ -14,10 +14,9 @@ returns-then-out-at c = stayed _ _ _ c.if-out-at.true
 
 pub loop-i-init : goal.loop-i-init
 loop-i-init c =
-    let a = c in
     let e = c.digits_of-count.ensures in
-    let h = length_most a.args.n a.ranges.n.fits in
-    (omega arith, omega (arith, h, e), refl, ap (λ (k : ℕ). sets a.args.out.now a.args.at (last_digits k a.args.n)) e ∙ ap (sets a.args.out.now a.args.at) (last_all a.args.n))
+    let h = length_most c.args.n c.ranges.n.fits in
+    (omega arith, omega (arith, h, e), refl, ap (λ (k : ℕ). sets c.args.out.now c.args.at (last_digits k c.args.n)) e ∙ ap (sets c.args.out.now c.args.at) (last_all c.args.n))
 
 pub loop-i-preserved : goal.loop-i-preserved
 loop-i-preserved c =

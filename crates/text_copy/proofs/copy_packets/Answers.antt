@@ -9,6 +9,5 @@ use Rattle.text_copy.proofs.copy_packets.Goals as goal
 
 pub put_whole-requires : goal.put_whole-requires
 put_whole-requires c =
-    let start = c in
     let n = ap (λ (n : PacketNumber). n.0) c.packets_of.ensures in
-    (start.requires, omega (arith, n, c.if-packets_of-out.true, text_most start.args.words.now start.args.offset (length start.args.words.now / 4)))
+    (c.requires, omega (arith, n, c.if-packets_of-out.true, text_most c.args.words.now c.args.offset (length c.args.words.now / 4)))

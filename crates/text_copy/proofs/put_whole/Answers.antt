@@ -7,7 +7,6 @@ use Rattle.text_copy.proofs.put_whole.Goals as goal
 
 pub returns : goal.returns
 returns c =
-    let start = c in
-    let a = start.args in
-    let r = copied (text_of a.words.now (14 - a.offset) (length a.words.now / 4)) a.out.now start.requires.1 c.put_packets.ensures in
+    let a = c.args in
+    let r = copied (text_of a.words.now (14 - a.offset) (length a.words.now / 4)) a.out.now c.requires.1 c.put_packets.ensures in
     record { answer = r.0; bytes = r.1 }

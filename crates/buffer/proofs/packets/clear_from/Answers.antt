@@ -11,9 +11,8 @@ use Rattle.buffer.proofs.packets.clear_from.Goals as goal
 
 pub loop-k-init : goal.loop-k-init
 loop-k-init c =
-    let s = c in
-    let e : c.end_of_packets-end.result.0 ≡ length s.args.words.now / 4 * 4 = ap (λ (w : WordNumber). w.0) c.end_of_packets-end.ensures in
-    (e, omega arith, rw e s.requires, found_filled _ _ _ (omega (arith, s.requires)) (λ k h. rw (lt-ltb k _ h)))
+    let e : c.end_of_packets-end.result.0 ≡ length c.args.words.now / 4 * 4 = ap (λ (w : WordNumber). w.0) c.end_of_packets-end.ensures in
+    (e, omega arith, rw e c.requires, found_filled _ _ _ (omega (arith, c.requires)) (λ k h. rw (lt-ltb k _ h)))
 
 pub loop-k-preserved : goal.loop-k-preserved
 loop-k-preserved c =

@@ -10,11 +10,10 @@ use Rattle.buffer.proofs.texts.fill_any_packet.Goals as goal
 
 pub returns : goal.returns
 returns c =
-    let s = c in
-    let a = s.args in
+    let a = c.args in
     let h = c.head_of-h.ensures in
     let e = same_head a.text.now (formatted a.head) (14 - a.offset) a.packets.0 a.packet.0 in
     c.put_four.ensures
     ∙ four_set (word_in a.text.now (formatted a.head) (14 - a.offset) a.packets.0 a.packet.0) a.words.now _ _ _ _ _ _
     (c.word_in-a.ensures ∙ e 0 _ h) (c.word_in-b.ensures ∙ e 1 _ h) (c.word_in-c.ensures ∙ e 2 _ h) (c.word_in-d.ensures ∙ e 3 _ h)
-    (word_of a.packet _ (omega (arith, s.requires.1)) c.first_word.ensures)
+    (word_of a.packet _ (omega (arith, c.requires.1)) c.first_word.ensures)

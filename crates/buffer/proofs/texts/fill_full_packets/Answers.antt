@@ -17,7 +17,6 @@ loop-p-init c = (omega arith, omega arith, none_filled _ _)
 
 pub loop-p-preserved : goal.loop-p-preserved
 loop-p-preserved c =
-    let s = c in
     let l = c.loop-p in
     let t = c.loop-p-test.true in
-    (omega (arith, t), next_place l.p (14 - s.args.offset) l.to l.invariant.1, rw c.fill_full_packet.ensures (text_more _ _ _ _ _ l.invariant.2 t (omega (arith, t, s.requires.2))))
+    (omega (arith, t), next_place l.p (14 - c.args.offset) l.to l.invariant.1, rw c.fill_full_packet.ensures (text_more _ _ _ _ _ l.invariant.2 t (omega (arith, t, c.requires.2))))

@@ -9,7 +9,6 @@ loop-p-init c = (omega arith, none_filled _ _)
 
 pub loop-p-preserved : goal.loop-p-preserved
 loop-p-preserved c =
-    let s = c in
     let l = c.loop-p in
     let t = c.loop-p-test.true in
-    (omega (arith, t), rw c.fill_any_packet.ensures (text_more _ _ _ _ _ l.invariant.1 (omega (arith, t, s.requires.2)) (omega (arith, t, s.requires.3))))
+    (omega (arith, t), rw c.fill_any_packet.ensures (text_more _ _ _ _ _ l.invariant.1 (omega (arith, t, c.requires.2)) (omega (arith, t, c.requires.3))))

@@ -13,8 +13,7 @@ returns-then-j-ge4 c = record { value = before_text _ _ _ _ _ c.requires.0 _ c.i
 
 pub returns-then-offset-j : goal.returns-then-offset-j
 returns-then-offset-j c =
-    let s = c in
-    record { value = c.byte_at.ensures.value ∙ ap (λ (b : TextByteNumber). get_or s.args.text.now b.0 0) c.byte_of_text-b.ensures.value ∙ in_text _ _ _ _ _ s.requires.0 _ c.if-offset-j.true; small = c.byte_at.ensures.small }
+    record { value = c.byte_at.ensures.value ∙ ap (λ (b : TextByteNumber). get_or c.args.text.now b.0 0) c.byte_of_text-b.ensures.value ∙ in_text _ _ _ _ _ c.requires.0 _ c.if-offset-j.true; small = c.byte_at.ensures.small }
 
 pub returns : goal.returns
 unfolding octet_of

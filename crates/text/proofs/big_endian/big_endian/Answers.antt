@@ -12,7 +12,6 @@ returns-then-bytes-i c = sym (big_endian_out _ _ (omega arith))
 
 pub returns : goal.returns
 returns c =
-    let start = c in
     c.byte_swapped.ensures
-    ∙ rw c.little_endian.ensures (swap_back start.args.bytes.now start.args.i (λ k. (c.type_inv.bytes k).fits))
+    ∙ rw c.little_endian.ensures (swap_back c.args.bytes.now c.args.i (λ k. (c.type_inv.bytes k).fits))
     ∙ sym (big_endian_in _ _ (omega arith))

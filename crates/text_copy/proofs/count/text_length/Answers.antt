@@ -16,16 +16,12 @@ loop-p-init c =
 
 pub loop-p-preserved : goal.loop-p-preserved
 loop-p-preserved c =
-    let l = c in
-    let start = l in
     let r = c.packet_length-count.ensures in
-    let h = rw l.loop-p.invariant.1 at c.loop-p-test.true in
+    let h = rw c.loop-p.invariant.1 at c.loop-p-test.true in
     let e = r.value ∙ ap (λ (t : TextWords). length (packet_text t)) c.text_words.ensures in
-    let m = length_more start.args.words.now start.args.offset l.loop-p.p start.requires h in
-    (search rules, l.loop-p.invariant.1, omega (arith, r.small, l.loop-p.invariant.2), omega (arith, e, m, l.loop-p.invariant.3))
+    let m = length_more c.args.words.now c.args.offset c.loop-p.p c.requires h in
+    (search rules, c.loop-p.invariant.1, omega (arith, r.small, c.loop-p.invariant.2), omega (arith, e, m, c.loop-p.invariant.3))
 
 pub returns : goal.returns
 returns c =
-    let l = c in
-    let start = l in
-    omega (arith, l.loop-p.invariant.3, ap length (left_none start.args.words.now start.args.offset l.loop-p.p (rw l.loop-p.invariant.1 at c.loop-p-test.false)))
+    omega (arith, c.loop-p.invariant.3, ap length (left_none c.args.words.now c.args.offset c.loop-p.p (rw c.loop-p.invariant.1 at c.loop-p-test.false)))

@@ -8,9 +8,5 @@ use Rattle.text_copy.proofs.put.put_each.Goals as goal
 
 pub returns : goal.returns
 returns c =
-    let d = c in
-    let b = d in
-    let a = b in
-    let z = a in
-    says (z.put_octet-a.ensures ⨾ a.put_octet-b.ensures ⨾ b.put_octet-c.ensures ⨾ d.put_octet.ensures)
-    (four_joined (_ ∷ []) (_ ∷ []) (_ ∷ []) (_ ∷ []) ∙ ap nonzero (listed _ _ z.octets_of-o.ensures))
+    says (c.put_octet-a.ensures ⨾ c.put_octet-b.ensures ⨾ c.put_octet-c.ensures ⨾ c.put_octet.ensures)
+    (four_joined (_ ∷ []) (_ ∷ []) (_ ∷ []) (_ ∷ []) ∙ ap nonzero (listed _ _ c.octets_of-o.ensures))

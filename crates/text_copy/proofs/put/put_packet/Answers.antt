@@ -4,8 +4,4 @@ use Rattle.text_copy.proofs.put.put_packet.Goals as goal
 
 pub returns : goal.returns
 returns c =
-    let d = c in
-    let b = d in
-    let a = b in
-    let z = a in
-    z.put_each-a.ensures ⨾ a.put_word-b.ensures ⨾ b.put_word-c.ensures ⨾ d.put_word.ensures
+    c.put_each-a.ensures ⨾ c.put_word-b.ensures ⨾ c.put_word-c.ensures ⨾ c.put_word.ensures

@@ -16,11 +16,8 @@ loop-p-init c =
 pub loop-p-preserved : goal.loop-p-preserved
 loop-p-preserved c =
     let w = c.put_packet-at in
-    let t = c in
-    let l = t in
-    let start = l in
-    let h = rw l.loop-p.invariant.2 at t.loop-p-test.true in
-    (w.auto.out ∙ l.loop-p.invariant.0, search rules, l.loop-p.invariant.2, to_write_turn l.loop-p.invariant.3 (says w.ensures (ap packet_text t.text_words.ensures)) (left_more start.args.words.now start.args.offset l.loop-p.p start.requires h))
+    let h = rw c.loop-p.invariant.2 at c.loop-p-test.true in
+    (w.auto.out ∙ c.loop-p.invariant.0, search rules, c.loop-p.invariant.2, to_write_turn c.loop-p.invariant.3 (says w.ensures (ap packet_text c.text_words.ensures)) (left_more c.args.words.now c.args.offset c.loop-p.p c.requires h))
 
 pub returns : goal.returns
 returns c =

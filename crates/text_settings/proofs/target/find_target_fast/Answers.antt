@@ -5,5 +5,4 @@ use Rattle.text_settings.proofs.target.find_target_fast.Goals as goal
 
 pub returns-then-is_single_ascii_packet : goal.returns-then-is_single_ascii_packet
 returns-then-is_single_ascii_packet c =
-    let start = c in
-    single_target start.args.kind start.args.words.now start.args.head start.requires (sym c.is_single_ascii_packet.ensures ∙ c.if-is_single_ascii_packet.true)
+    single_target c.args.kind c.args.words.now c.args.head c.requires (sym c.is_single_ascii_packet.ensures ∙ c.if-is_single_ascii_packet.true)

@@ -8,10 +8,8 @@ use Rattle.text_settings.proofs.target.find_text_target.Goals as goal
 
 pub returns-then-packets-ne0 : goal.returns-then-packets-ne0
 returns-then-packets-ne0 c =
-    let row = c in
-    let start = row in
-    let own = sym c.status_of.ensures ∙ c.if-status_of-row.true ∙ row.row_of-row.ensures.status in
+    let own = sym c.status_of.ensures ∙ c.if-status_of-row.true ∙ c.row_of-row.ensures.status in
     let n = c.text_packets-packets.ensures in
     let is = ap (λ (x : PacketNumber). x.0) n in
     let some = c.if-packets-ne0.true in
-    ap T.Packets n ∙ seen_target start.args.kind start.args.words.now _ own refl (omega (arith, is, some))
+    ap T.Packets n ∙ seen_target c.args.kind c.args.words.now _ own refl (omega (arith, is, some))
