@@ -1,7 +1,7 @@
 // Standard input, or any other reader, read until a buffer is full.
 #![tactic(auto)]
 
-ghost use Rattle.std.specs.Prelude.{◌≡◌, ◌<◌, length, take, false};
+ghost use Rattle.std.specs.Prelude.{◌≡◌, ◌<◌, length, take, true, false};
 ghost use Rattle.whole_input.specs.Counts.{IsPrefixLen};
 ghost use Rattle.std.specs.Io.KnownBytes.{Consumes, IsAtEnd};
 
@@ -18,6 +18,7 @@ pub struct Taken {
 pub fn read_full<R: Read>(reader: &mut R, buf: &mut [u8]) -> Taken
     ensures in_bounds { IsPrefixLen result.bytes buf.new }
     ensures bytes { Consumes (R.remaining reader.old) (R.remaining reader.new) (take result.bytes buf.new) }
+    ensures failure { result.failed ≡ true → result.bytes < length buf.old }
     ensures end { result.failed ≡ false → result.bytes < length buf.old → IsAtEnd (R.remaining reader.new) }
 {
     let mut done = 0;
