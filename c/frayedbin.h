@@ -15,8 +15,8 @@
  * the end; frayedbin_text copies the text of a message that was found. c/probe.c answers a
  * discovery so, and c/example.c uses every kind of call.
  *
- * Link with libfrayedbin.a (x86-64 Linux), which `rt staticlib frayedbin` makes. The header and
- * the library fit together where frayedbin_version() gives FRAYEDBIN_VERSION.
+ * Link with libfrayedbin.a (x86-64 Linux), which `rt lib` in crates/frayedbin makes. The header
+ * and the library fit together where frayedbin_version() gives FRAYEDBIN_VERSION.
  */
 #ifndef FRAYEDBIN_H
 #define FRAYEDBIN_H

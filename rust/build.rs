@@ -21,7 +21,7 @@ fn main() {
     println!("cargo:rerun-if-changed={}", library.display());
     if !library.is_file() {
         fail(&format!(
-            "no libfrayedbin.a in {}: make it with `rt staticlib frayedbin` in the repository, \
+            "no libfrayedbin.a in {}: make it with `rt lib` in the repository's crates/frayedbin, \
              or name its folder in FRAYEDBIN_LIB_DIR",
             folder.display()
         ));
@@ -30,12 +30,12 @@ fn main() {
     println!("cargo:rustc-link-lib=static=frayedbin");
 }
 
-/// The library's folder: the one that is named, or the one that `rt staticlib` writes to.
+/// The library's folder: the one that is named, or the one that `rt lib` writes to.
 fn folder() -> PathBuf {
     let here = variable("CARGO_MANIFEST_DIR");
     match env::var_os("FRAYEDBIN_LIB_DIR") {
         Some(folder) => Path::new(&here).join(folder),
-        None => Path::new(&here).join("../target/staticlib"),
+        None => Path::new(&here).join("../crates/frayedbin/out"),
     }
 }
 

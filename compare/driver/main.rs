@@ -21,7 +21,7 @@ use tally::{show_outcome, show_question, Tally};
 const USE: &str = "use: driver compare COUNT SEED | digest COUNT SEED | sample COUNT SEED | \
     replay COUNT SEED FOLDER | vectors FOLDER | read WORDS";
 
-/// The kit's x86-64 emulator dies where glibc reads /proc/self/maps for this call, which std makes at its start;
+/// Some x86-64 emulators die where glibc reads /proc/self/maps for this call, which std makes at its start;
 /// std takes an error for a stack of unknown bounds. Only its guard page is lost by it.
 #[cfg(emulated)]
 #[no_mangle]

@@ -29,17 +29,17 @@
 //!
 //! # Linking
 //!
-//! The build script links `libfrayedbin.a`, which `rt staticlib frayedbin` makes in the
-//! repository's target/staticlib/, for x86-64 Linux. Beside a clone in which it was made, a
-//! dependency by path finds it:
+//! The build script links `libfrayedbin.a`, which `rt lib` in the repository's crates/frayedbin
+//! makes in out/ there, for x86-64 Linux. Beside a clone in which it was made, a dependency by
+//! path finds it:
 //!
 //! ```toml
 //! [dependencies]
 //! frayedbin = { path = "../frayedbin/rust" }
 //! ```
 //!
-//! A dependency by git has no target/ of the repository. `FRAYEDBIN_LIB_DIR` names the folder of
-//! the library, for this and wherever else it lies:
+//! A dependency by git has no library in its copy of the repository. `FRAYEDBIN_LIB_DIR` names
+//! the library's folder, for this and wherever else it lies:
 //!
 //! ```toml
 //! [dependencies]
@@ -47,7 +47,7 @@
 //! ```
 //!
 //! ```sh
-//! FRAYEDBIN_LIB_DIR=$HOME/frayedbin/target/staticlib cargo build
+//! FRAYEDBIN_LIB_DIR=$HOME/frayedbin/crates/frayedbin/out cargo build
 //! ```
 //!
 //! To name it once for a project, in the project's .cargo/config.toml, from the folder that
@@ -55,7 +55,7 @@
 //!
 //! ```toml
 //! [env]
-//! FRAYEDBIN_LIB_DIR = { value = "../frayedbin/target/staticlib", relative = true }
+//! FRAYEDBIN_LIB_DIR = { value = "../frayedbin/crates/frayedbin/out", relative = true }
 //! ```
 //!
 //! With `FRAYEDBIN_SKIP_LINK` set nothing is linked: enough for `cargo check`, `clippy` and `doc`
