@@ -1,16 +1,16 @@
 -- Digits put from the last to the first give the same buffer as digits put in order. By induction on the text and on the digits.
-use Prim.Native.Nat.{ℕ, zero, suc, ◌+◌, ◌/◌, ◌%◌, ◌≤◌}
+use Prim.Native.Nat.{ℕ, zero, suc, ◌+◌, ◌/◌, ◌%◌, ◌<◌, ◌≤◌, min}
 use mathlib.Core.Path.{◌≡◌, refl, sym, ap, ◌∙◌}
 use mathlib.Core.Logic.{⊎_elim}
 use mathlib.Core.List.{List, [], ◌∷◌, ◌++◌}
 use native.Mathlib.Omega.{arith}
 use native.Mathlib.Numerals.{add-one}
 use lib.ListN.{length, set, length-append, length-set}
-use lib.Seq.{sets, length-sets, set_out}
+use lib.Seq.{sets, length-sets}
 use borrow.Author.Tests.{lt-ltb, le-ltb}
 use Rattle.laws.proofs.Pick.{below}
 use Rattle.laws.proofs.Lists.{sets_last, sets_out}
-use Rattle.ascii_lines.specs.Page.{Page, page, put_byte, put_bytes, Wrote}
+use Rattle.ascii_lines.specs.Page.{page, put_byte, put_bytes, Wrote}
 use Rattle.ascii_lines.specs.Numbers.{digit, decimal}
 use Rattle.ascii_lines.proofs.Numbers.{decimal_one, decimal_more}
 use Rattle.ascii_lines.proofs.Room.{puts_sets}
@@ -37,17 +37,11 @@ last_in (suc k) n h =
 pub last_all : (n : ℕ) → last_digits (length (decimal n)) n ≡ decimal n
 last_all n = last_in n n (omega arith)
 
--- a byte put is a store, also past the end, where both do nothing
-put_set : {i j : ℕ} {o p : List ℕ} {b : ℕ} → Wrote i o (b ∷ []) j p → p ≡ set o i b
-unfolding put_byte put_bytes
-put_set {i} {j} {o} {p} {b} w =
-    ap (λ (s : Page). s.out) w.is ∙ ⊎_elim (λ h. rw (lt-ltb i (length o) h)) (λ h. rw (le-ltb i (length o) h) (sym (set_out o i b h))) (below i (length o))
-
 -- A TURN stores the last of the remaining digits
-pub digit_turn : {i j : ℕ} {o p : List ℕ} (at k m : ℕ) → suc k ≡ i → Wrote (at + k) o (digit (m % 10) ∷ []) j p → sets p at (last_digits k (m / 10)) ≡ sets o at (last_digits i m)
+pub digit_turn : (o : List ℕ) (at k m : ℕ) {i : ℕ} → suc k ≡ i → sets (set o (at + k) (digit (m % 10))) at (last_digits k (m / 10)) ≡ sets o at (last_digits i m)
 unfolding last_digits
-digit_turn {o = o} at k m e w =
-    rw (← e, put_set w) (sym (sets_last (last_digits k (m / 10)) o at (digit (m % 10)) ∙ ap (λ (n : ℕ). sets (set o (at + n) (digit (m % 10))) at (last_digits k (m / 10))) (last_length k (m / 10))))
+digit_turn o at k m e =
+    rw (← e) (sym (sets_last (last_digits k (m / 10)) o at (digit (m % 10)) ∙ ap (λ (n : ℕ). sets (set o (at + n) (digit (m % 10))) at (last_digits k (m / 10))) (last_length k (m / 10))))
 
 -- at the end none remain
 pub stored : {o p : List ℕ} (at i m : ℕ) → i ≤ 0 → sets p at (last_digits i m) ≡ o → p ≡ o
@@ -78,3 +72,12 @@ module _ (o a : List ℕ) (i : ℕ) where
 
   pub whole : {p : List ℕ} → p ≡ sets o i a → i + length a ≤ length o → Wrote i o a (i + length a) p
   whole e h = record { is = rw e (sym (puts_sets a o i h)) }
+
+  -- all are stored as far as there is room, and the place is after them or at the end
+  pub filled : {j : ℕ} {p : List ℕ} → p ≡ sets o i a → i ≤ length o → j ≡ min (length o) (i + length a) → Wrote i o a j p
+  filled {j} {p} e l m =
+      let kept : length p ≡ length o = ap length e ∙ length-sets o i a in
+      ⊎_elim
+      (λ (h : i + length a < length o). let q : j ≡ i + length a = omega arith in rw q (whole e (omega arith)))
+      (λ (h : length o ≤ i + length a). let q : j ≡ length p = omega arith in rw q (cut e l h))
+      (below (i + length a) (length o))

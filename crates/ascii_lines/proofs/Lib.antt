@@ -1,4 +1,5 @@
 pub mod Page
+pub mod Puts
 pub mod Numbers
 pub mod Room
 pub mod FromLast

@@ -23,6 +23,15 @@ length_one n h = rw (decimal_one n h)
 pub length_more : (n : ℕ) → 10 ≤ n → length (decimal n) ≡ length (decimal (n / 10)) + 1
 length_more n h = rw (decimal_more n h, length-append)
 
+-- the number of digits, from the largest power of ten that is not above the number
+pub length_power : (k n : ℕ) → 10 ^ k ≤ n → n < 10 * 10 ^ k → length (decimal n) ≡ k + 1
+length_power zero n l h = length_one n (omega arith)
+length_power (suc k) n l h =
+    let p = pow-suc 10 k in
+    let e : length (decimal n) ≡ length (decimal (n / 10)) + 1 = length_more n (omega arith) in
+    let r : length (decimal (n / 10)) ≡ k + 1 = length_power k (n / 10) (omega arith) (omega arith) in
+    omega arith
+
 -- a number below 10 ^ (k + 1) has at most k + 1 digits
 pub decimal-length : (k n : ℕ) → n < 10 ^ suc k → length (decimal n) ≤ suc k
 decimal-length zero n h = omega (arith, length_one n (omega arith))

@@ -1,5 +1,6 @@
 -- Numbers as text.
 use Rattle.std.specs.Prelude.{ℕ, zero, suc, ◌+◌, ◌/◌, ◌%◌, List, [], ◌∷◌, ◌++◌, ltb}
+use Rattle.std.specs.Int.{w32, to_be_bytes}
 use Rattle.laws.specs.Pick.{pick}
 use Rattle.laws.specs.Lists.{each}
 use Rattle.ascii_lines.specs.Ascii.{ascii}
@@ -20,6 +21,10 @@ decimal n = decimal_in n n
 -- the two digits of a byte, in lower-case hex
 abbrev pub hex_byte : ℕ → List ℕ
 hex_byte b = digit (b / 16) ∷ digit (b % 16) ∷ []
+
+-- the eight digits of a word, in lower-case hex: its bytes from the highest on
+abbrev pub hex_word : ℕ → List ℕ
+hex_word w = each hex_byte (to_be_bytes w32 w)
 
 -- a number in decimal after a space
 abbrev pub number : ℕ → List ℕ

@@ -1,7 +1,7 @@
 -- Numbers and bytes as the listing prints them, by examples.
 use Rattle.std.specs.Prelude.{◌≡◌, [], ◌∷◌}
 use Rattle.ascii_lines.specs.Ascii.{ascii}
-use Rattle.ascii_lines.specs.Numbers.{decimal, hex_byte, numbers, hex_or_dash}
+use Rattle.ascii_lines.specs.Numbers.{decimal, hex_byte, hex_word, numbers, hex_or_dash}
 
 pub record ToldLines : Type 0 where
   -- numbers in decimal, with no zeros before them
@@ -15,6 +15,8 @@ pub record ToldLines : Type 0 where
   pub high : hex_byte 0x90 ≡ ascii "90"
   pub letters : hex_byte 0xBC ≡ ascii "bc"
   pub last_letters : hex_byte 0xDF ≡ ascii "df"
+  -- a word is eight digits, its highest byte first
+  pub word : hex_word 0xF1A0030C ≡ ascii "f1a0030c"
   -- single spaces before numbers
   pub spaced : numbers (1 ∷ 20 ∷ 0 ∷ []) ≡ ascii " 1 20 0"
   -- text in hex with nothing between the bytes, `-` if it is empty

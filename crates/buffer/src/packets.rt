@@ -13,21 +13,20 @@ fn end_of_packets(words: WordNumber) -> WordNumber
     WordNumber(words.0 / 4 * 4)
 }
 
-// Clears every word from word `from` on, up to the end of the last whole packet.
+// Clears every word from word `from` on, up to the end of the last whole packet. LLVM makes the loop one `memset`; `fill` writes its last word on its own.
 #[tactic(auto, unfolding(crate::specs::Acts::clear_from))]
 pub(crate) fn clear_from(words: &mut [u32], from: WordNumber)
     requires { from.0 ≤ whole_words words.old }
     ensures { words.new ≡ clear_from from.0 words.old }
 {
     let end = end_of_packets(WordNumber(words.len()));
-    let mut k = from.0;
-    while k < end.0 {
+    for k in from.0..end.0 {
         words[k] = 0;
-        k += 1;
     }
 }
 
 // Clears every whole packet, and puts the head into the first.
+#[tactic(auto, using(crate::proofs::Turns::blank_none, crate::proofs::Turns::blank_cleared))]
 pub fn clear(words: &mut [u32], head: u32)
     ensures { words.new ≡ blank head words.old }
 {

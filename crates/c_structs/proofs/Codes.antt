@@ -2,7 +2,8 @@
 use mathlib.Core.Path.{◌≡◌, refl}
 use mathlib.Core.List.{[], ◌∷◌}
 use Rattle.records.specs.Answers.{accepted}
-use Rattle.c_structs.specs.Codes.{hint_from_code, port_from_code, direction_from_code, said_hint, said_port, said_direction}
+use Rattle.kinds.specs.Choices.{hint_from_code, port_from_code, direction_from_code}
+use Rattle.c_structs.specs.Codes.{said_hint, said_port, said_direction}
 
 pub hint-codes :
     (said_hint (hint_from_code 0) ≡ accepted (0 ∷ []))

@@ -1,23 +1,24 @@
-// Answers as structs of numbers. A refusal's number is 0 where nothing was refused.
-ghost use Rattle.std.specs.Prelude.{◌≡◌};
+// Answers as structs of numbers, as C takes them: a refusal's number is 0 where nothing was refused.
+ghost use Rattle.std.specs.Prelude.{◌≡◌, Err};
 ghost use Rattle.counts.specs.Counts.{word};
 ghost use Rattle.kinds.specs.Fields.{start};
 ghost use Rattle.records.specs.Records.{record_of};
 ghost use Rattle.numbers.specs.Numbers.{as_numbers};
-ghost use Rattle.records.specs.declared.answers.Answer.{Answer};
 ghost use Rattle.records.specs.declared.answers.Walked.TheVariants as W;
-ghost use Rattle.c_structs.specs.Crossed.{answered, with_numbers, with_refusal, read_crossed, found_crossed, walk_crossed, packet_crossed, size_crossed, copy_crossed, byte_crossed, step_crossed, edited_crossed};
+ghost use Rattle.c_structs.specs.Crossed.{answered, with_numbers, with_refusal, read_crossed, found_crossed, walk_crossed, packet_crossed, size_crossed, copy_crossed, step_crossed, set_crossed};
 
-use kinds::choices::format_code;
+use counts::{TextByteNumber, WordNumber};
 use kinds::kind::Kind;
-use kinds::refusal::{Refusal, refusal_number, refusal_place};
+use kinds::refusal::Refusal;
 use numbers::Numbers;
 use numbers::of_record::{no_numbers, numbers_of, of_text};
 use numbers::set_one::with_number;
 use reading::packet;
-use records::answers::{Answer, Edited, MessageSize, PacketRead, Read};
-use text::{Stepped, TextStep};
-use text_copy::TextCopy;
+use records::answers::Edited;
+use records::message::Message;
+use records::packet::Packet;
+use text::Stepped;
+use text_copy::NotCopied;
 
 #[repr(C)]
 #[derive(Clone, Copy)]
@@ -85,227 +86,229 @@ pub struct StepAnswer {
     pub byte_number: usize,
 }
 
-pub fn of_refusal(refusal: Refusal) -> Answered
-    ensures { result ≡ answered (Answer.Refused refusal) }
-{
-    Answered {
-        refusal: refusal_number(refusal),
-        place: refusal_place(refusal),
+impl From<Refusal> for Answered {
+    ghost from_gives = { λ refusal a. a ≡ answered (Err refusal) };
+
+    fn from(refusal: Refusal) -> Answered {
+        Answered {
+            refusal: refusal.number(),
+            place: refusal.place(),
+        }
     }
 }
 
-pub fn of_answer(answer: Answer) -> Answered
-    ensures { result ≡ answered answer }
-{
-    match answer {
-        Answer::Done => Answered {
+impl From<Result<(), Refusal>> for Answered {
+    ghost from_gives = { λ answer a. a ≡ answered answer };
+
+    fn from(answer: Result<(), Refusal>) -> Answered {
+        match answer {
+            Ok(()) => Answered {
+                refusal: 0,
+                place: 0,
+            },
+            Err(refusal) => Answered::from(refusal),
+        }
+    }
+}
+
+impl RecordAnswer {
+    // A refused call hands the record back unchanged.
+    pub fn refused(refusal: Refusal, numbers: Numbers) -> RecordAnswer
+        ensures { result ≡ with_refusal refusal numbers }
+    {
+        RecordAnswer {
+            refusal: refusal.number(),
+            place: refusal.place(),
+            numbers,
+        }
+    }
+
+    // A record that a setting gives.
+    pub fn accepted(numbers: Numbers) -> RecordAnswer
+        ensures { result ≡ with_numbers numbers }
+    {
+        RecordAnswer {
             refusal: 0,
             place: 0,
-        },
-        Answer::Refused(refusal) => of_refusal(refusal),
+            numbers,
+        }
+    }
+
+    // The record of a fresh message: all numbers are 0 but a block info's direction.
+    pub fn fresh(kind: Kind) -> RecordAnswer
+        ensures { result ≡ with_numbers (as_numbers (record_of kind 1 start)) }
+    {
+        let numbers = of_text(kind, 1, 0);
+        let Kind::FunctionBlockInfo = kind else {
+            return RecordAnswer::accepted(numbers);
+        };
+        RecordAnswer::accepted(with_number(numbers, 9, 4, 3))
+    }
+
+    // The answer of a setting on a record that came as these numbers, if they are one.
+    pub fn edited(edited: Result<Edited, Refusal>, numbers: Numbers) -> RecordAnswer
+        ensures { result ≡ set_crossed edited numbers }
+    {
+        match edited {
+            Ok(
+                Edited {
+                    message,
+                    answer: Ok(()),
+                },
+            ) => RecordAnswer::accepted(numbers_of(message)),
+            Ok(
+                Edited {
+                    answer: Err(refusal),
+                    ..
+                },
+            )
+            | Err(refusal) => RecordAnswer::refused(refusal, numbers),
+        }
     }
 }
 
-// A refused call hands the record back unchanged.
-pub fn refused_record(refusal: Refusal, numbers: Numbers) -> RecordAnswer
-    ensures { result ≡ with_refusal refusal numbers }
-{
-    RecordAnswer {
-        refusal: refusal_number(refusal),
-        place: refusal_place(refusal),
-        numbers,
-    }
-}
+impl From<Result<Message, Refusal>> for RecordAnswer {
+    ghost from_gives = { λ read a. a ≡ read_crossed read };
 
-// A record that a setting gives.
-pub fn of_numbers(numbers: Numbers) -> RecordAnswer
-    ensures { result ≡ with_numbers numbers }
-{
-    RecordAnswer {
-        refusal: 0,
-        place: 0,
-        numbers,
-    }
-}
-
-// The record of a fresh message: all numbers are 0 but a block info's direction.
-pub fn of_fresh(kind: Kind) -> RecordAnswer
-    ensures { result ≡ with_numbers (as_numbers (record_of kind 1 start)) }
-{
-    let numbers = of_text(kind, 1, 0);
-    let Kind::FunctionBlockInfo = kind else {
-        return of_numbers(numbers);
-    };
-    of_numbers(with_number(numbers, 9, 4, 3))
-}
-
-pub fn of_read(read: Read) -> RecordAnswer
-    ensures { result ≡ read_crossed read }
-{
-    match read {
-        Read::Message(message) => RecordAnswer {
-            refusal: 0,
-            place: 0,
-            numbers: numbers_of(message),
-        },
-        Read::Refused(refusal) => refused_record(refusal, no_numbers()),
+    fn from(read: Result<Message, Refusal>) -> RecordAnswer {
+        match read {
+            Ok(message) => RecordAnswer::accepted(numbers_of(message)),
+            Err(refusal) => RecordAnswer::refused(refusal, no_numbers()),
+        }
     }
 }
 
 // The walk's answers, a function for each: frayedbin_walk fills the struct in the case at hand.
-pub fn of_end() -> WalkAnswer
-    ensures { result ≡ walk_crossed W.End }
-{
-    WalkAnswer {
-        found: 0,
-        refusal: 0,
-        place: 0,
-        ump_type: 0,
-        size: 0,
-        next: 0,
-        numbers: no_numbers(),
-    }
-}
-
-pub fn of_other(ump_type: u32, size: usize, next: usize) -> WalkAnswer
-    ensures { result ≡ walk_crossed (W.Other ump_type (word size) (word next)) }
-{
-    WalkAnswer {
-        found: 1,
-        refusal: 0,
-        place: 0,
-        ump_type,
-        size,
-        next,
-        numbers: no_numbers(),
-    }
-}
-
-// A message, whose numbers the functions of `numbers` give.
-pub fn of_found(numbers: Numbers, next: usize) -> WalkAnswer
-    ensures { result ≡ found_crossed numbers next }
-{
-    WalkAnswer {
-        found: 2,
-        refusal: 0,
-        place: 0,
-        ump_type: 0,
-        size: 0,
-        next,
-        numbers,
-    }
-}
-
-pub fn of_walk_refused(refusal: Refusal, next: usize) -> WalkAnswer
-    ensures { result ≡ walk_crossed (W.Refused refusal (word next)) }
-{
-    WalkAnswer {
-        found: 3,
-        refusal: refusal_number(refusal),
-        place: refusal_place(refusal),
-        ump_type: 0,
-        size: 0,
-        next,
-        numbers: no_numbers(),
-    }
-}
-
-pub fn of_packet(read: PacketRead) -> PacketAnswer
-    ensures { result ≡ packet_crossed read }
-{
-    match read {
-        PacketRead::Packet(p) => PacketAnswer {
+impl WalkAnswer {
+    pub fn end() -> WalkAnswer
+        ensures { result ≡ walk_crossed W.End }
+    {
+        WalkAnswer {
+            found: 0,
             refusal: 0,
             place: 0,
-            format: format_code(packet::format(p)),
-            first: p.0,
-            second: p.1,
-            third: p.2,
-            fourth: p.3,
-        },
-        PacketRead::Refused(refusal) => PacketAnswer {
-            refusal: refusal_number(refusal),
-            place: refusal_place(refusal),
-            format: 0,
-            first: 0,
-            second: 0,
-            third: 0,
-            fourth: 0,
-        },
+            ump_type: 0,
+            size: 0,
+            next: 0,
+            numbers: no_numbers(),
+        }
+    }
+
+    pub fn other(ump_type: u32, size: usize, next: usize) -> WalkAnswer
+        ensures { result ≡ walk_crossed (W.Other ump_type (word size) (word next)) }
+    {
+        WalkAnswer {
+            found: 1,
+            ump_type,
+            size,
+            next,
+            ..WalkAnswer::end()
+        }
+    }
+
+    // A message, whose numbers the functions of `numbers` give.
+    pub fn found(numbers: Numbers, next: usize) -> WalkAnswer
+        ensures { result ≡ found_crossed numbers next }
+    {
+        WalkAnswer {
+            found: 2,
+            next,
+            numbers,
+            ..WalkAnswer::end()
+        }
+    }
+
+    pub fn refused(refusal: Refusal, next: usize) -> WalkAnswer
+        ensures { result ≡ walk_crossed (W.Refused refusal (word next)) }
+    {
+        WalkAnswer {
+            found: 3,
+            refusal: refusal.number(),
+            place: refusal.place(),
+            next,
+            ..WalkAnswer::end()
+        }
     }
 }
 
-pub fn of_size(size: MessageSize) -> SizeAnswer
-    ensures { result ≡ size_crossed size }
-{
-    match size {
-        MessageSize::Words(n) => SizeAnswer {
-            refusal: 0,
-            place: 0,
-            words: n.0,
-        },
-        MessageSize::Refused(refusal) => SizeAnswer {
-            refusal: refusal_number(refusal),
-            place: refusal_place(refusal),
-            words: 0,
-        },
+impl From<Result<Packet, Refusal>> for PacketAnswer {
+    ghost from_gives = { λ read a. a ≡ packet_crossed read };
+
+    fn from(read: Result<Packet, Refusal>) -> PacketAnswer {
+        match read {
+            Ok(p) => PacketAnswer {
+                refusal: 0,
+                place: 0,
+                format: u32::from(packet::format(p)),
+                first: p.0,
+                second: p.1,
+                third: p.2,
+                fourth: p.3,
+            },
+            Err(refusal) => PacketAnswer {
+                refusal: refusal.number(),
+                place: refusal.place(),
+                format: 0,
+                first: 0,
+                second: 0,
+                third: 0,
+                fourth: 0,
+            },
+        }
     }
 }
 
-pub fn of_copy(copy: TextCopy) -> TextAnswer
-    ensures { result ≡ copy_crossed copy }
-{
-    match copy {
-        TextCopy::Copied(n) => TextAnswer {
-            refusal: 0,
-            place: 0,
-            length: n.0,
-        },
-        TextCopy::NoRoom(n) => TextAnswer {
-            refusal: refusal_number(Refusal::NoRoom),
-            place: refusal_place(Refusal::NoRoom),
-            length: n.0,
-        },
-        TextCopy::Refused(refusal) => TextAnswer {
-            refusal: refusal_number(refusal),
-            place: refusal_place(refusal),
-            length: 0,
-        },
+impl From<Result<WordNumber, Refusal>> for SizeAnswer {
+    ghost from_gives = { λ size a. a ≡ size_crossed size };
+
+    fn from(size: Result<WordNumber, Refusal>) -> SizeAnswer {
+        match size {
+            Ok(n) => SizeAnswer {
+                refusal: 0,
+                place: 0,
+                words: n.0,
+            },
+            Err(refusal) => SizeAnswer {
+                refusal: refusal.number(),
+                place: refusal.place(),
+                words: 0,
+            },
+        }
     }
 }
 
-fn byte_of(step: TextStep) -> u32
-    ensures { result ≡ byte_crossed step }
-{
-    match step {
-        TextStep::Byte(b) => b as u32,
-        TextStep::End => 0,
+impl From<Result<TextByteNumber, NotCopied>> for TextAnswer {
+    ghost from_gives = { λ copy a. a ≡ copy_crossed copy };
+
+    fn from(copy: Result<TextByteNumber, NotCopied>) -> TextAnswer {
+        match copy {
+            Ok(n) => TextAnswer {
+                refusal: 0,
+                place: 0,
+                length: n.0,
+            },
+            Err(NotCopied::NoRoom(n)) => TextAnswer {
+                refusal: Refusal::NoRoom.number(),
+                place: Refusal::NoRoom.place(),
+                length: n.0,
+            },
+            Err(NotCopied::Refused(refusal)) => TextAnswer {
+                refusal: refusal.number(),
+                place: refusal.place(),
+                length: 0,
+            },
+        }
     }
 }
 
-pub fn of_step(stepped: Stepped) -> StepAnswer
-    ensures { result ≡ step_crossed stepped }
-{
-    let step = stepped.step;
-    StepAnswer {
-        byte: byte_of(step),
-        packet: stepped.place.packet.0,
-        byte_number: stepped.place.byte.0,
-    }
-}
+impl From<Stepped> for StepAnswer {
+    ghost from_gives = { λ stepped a. a ≡ step_crossed stepped };
 
-// The answer of a setting on a record that came as these numbers.
-pub fn of_edited(edited: Edited, numbers: Numbers) -> RecordAnswer
-    ensures { result ≡ edited_crossed edited.answer edited.message numbers }
-{
-    let answer = edited.answer;
-    let message = edited.message;
-    match answer {
-        Answer::Done => RecordAnswer {
-            refusal: 0,
-            place: 0,
-            numbers: numbers_of(message),
-        },
-        Answer::Refused(refusal) => refused_record(refusal, numbers),
+    fn from(stepped: Stepped) -> StepAnswer {
+        StepAnswer {
+            byte: u32::from(stepped.step.unwrap_or(0)),
+            packet: stepped.place.packet.0,
+            byte_number: stepped.place.byte.0,
+        }
     }
 }

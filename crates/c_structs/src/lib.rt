@@ -1,5 +1,4 @@
-// Answers as structs of numbers for C and Rust, and named choices from their codes.
+// Answers as structs of numbers for C and Rust.
 #![tactic(auto)]
 
 pub mod answers;
-pub mod choices;

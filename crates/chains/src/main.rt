@@ -5,139 +5,112 @@
 mod chain;
 
 use chain::{case_eleven, every, own};
-use kinds::refusal::refusal_number;
+use kinds::kind::Kind;
+use kinds::refusal::Refusal;
+use numbers::Numbers;
 use numbers::of_record::numbers_of;
 use reading::message::read;
-use records::answers::{Answer, Edited, Read};
+use records::answers::Edited;
 use records::message::Message;
-use std::io;
+use std::{fmt, io};
+use table::rows::row_of;
 use writing::fresh::fresh;
 use writing::write::write;
 
 // Refusal number, or 0.
-fn number_of(answer: Answer) -> u64 {
+fn number_of(answer: Result<(), Refusal>) -> u32 {
     match answer {
-        Answer::Done => 0,
-        Answer::Refused(refusal) => refusal_number(refusal) as u64,
+        Ok(()) => 0,
+        Err(refusal) => refusal.number(),
     }
 }
 
-// A space, and a word's eight digits in lower-case hex.
-fn put_word(out: &mut [u8], at: usize, word: u32) -> usize {
-    let a = ascii_lines::put_byte(out, at, b' ');
-    let b = ascii_lines::put_hex(out, a, (word / 0x1000000) as u8);
-    let c = ascii_lines::put_hex(out, b, (word / 0x10000 % 0x100) as u8);
-    let d = ascii_lines::put_hex(out, c, (word / 0x100 % 0x100) as u8);
-    ascii_lines::put_hex(out, d, (word % 0x100) as u8)
+// The record's packets and nine numbers, as they are printed.
+#[derive(Clone, Copy)]
+struct Shown(Numbers);
+
+impl fmt::Display for Shown {
+    fn fmt<W: fmt::Write>(&self, f: &mut fmt::Formatter<W>) -> fmt::Result {
+        let n = self.0;
+        write!(
+            f,
+            "{} {} {} {} {} {} {} {} {} {}",
+            n.packets,
+            n.first,
+            n.second,
+            n.third,
+            n.fourth,
+            n.fifth,
+            n.sixth,
+            n.seventh,
+            n.eighth,
+            n.ninth
+        )
+    }
 }
 
-fn wide(n: u32) -> u64 {
-    n as u64
-}
-
-// The record's packets and nine numbers.
-fn put_record(out: &mut [u8], at: usize, message: Message) -> usize {
-    let c = numbers_of(message);
-    let ns = [
-        c.packets as u64,
-        wide(c.first),
-        wide(c.second),
-        wide(c.third),
-        wide(c.fourth),
-        wide(c.fifth),
-        wide(c.sixth),
-        wide(c.seventh),
-        wide(c.eighth),
-        wide(c.ninth),
-    ];
-    ascii_lines::put_numbers(out, at, &ns)
-}
-
-fn put_words(out: &mut [u8], at: usize, words: &[u32; 4]) -> usize {
-    let a = put_word(out, at, words[0]);
-    let b = put_word(out, a, words[1]);
-    let c = put_word(out, b, words[2]);
-    let d = put_word(out, c, words[3]);
-    ascii_lines::put_byte(out, d, b'\n')
-}
-
-// The rest of a line: the answers, the record, and the words that it was written into.
-fn put_edited(out: &mut [u8], at: usize, edited: Edited) -> usize {
-    let message = edited.message;
-    let answer = edited.answer;
+// A line: what was chained, on which status, from which number; the answers, the record, and the words that it was written into.
+fn print_line(rt: &impl Print, name: &str, status: u32, n: u16, edited: Edited) -> io::Result<()> {
     let mut words = [0x11111111u32; 4];
-    let written = write(&mut words, message);
-    let ns = [number_of(answer), number_of(written)];
-    let a = ascii_lines::put_numbers(out, at, &ns);
-    let b = put_record(out, a, message);
-    put_words(out, b, &words)
+    let written = number_of(write(&mut words, edited.message));
+    let answer = number_of(edited.answer);
+    let shown = Shown(numbers_of(edited.message));
+    let [a, b, c, d] = words;
+    println!(rt; "{name} {status} {n} {answer} {written} {shown} {a:08x} {b:08x} {c:08x} {d:08x}")
 }
 
 // A fresh record of a kind, as reading gives it.
-fn started(status: u32) -> Read {
+fn started(kind: Kind) -> Result<Message, Refusal> {
     let mut words = [0u32; 4];
-    fresh(&mut words, status);
+    fresh(&mut words, row_of(kind).status)?;
     read(&words)
 }
 
 // The lines of a kind at one number: its own settings, then those of all kinds.
-fn put_kind(out: &mut [u8], at: usize, status: u32, n: u16) -> usize {
-    let found = started(status);
-    let Read::Message(message) = found else {
-        return at;
+fn print_kind(rt: &impl Print, kind: Kind, n: u16) -> io::Result<()> {
+    let Ok(message) = started(kind) else {
+        return Ok(());
     };
     let first = Edited {
         message,
-        answer: Answer::Done,
+        answer: Ok(()),
     };
-    let ns = [status as u64, n as u64];
-    let a = ascii_lines::put_named(out, at, b"own", &ns);
-    let b = put_edited(out, a, own(first, status, n));
-    let c = ascii_lines::put_named(out, b, b"every", &ns);
-    put_edited(out, c, every(first, n))
+    let status = row_of(kind).status;
+    print_line(rt, "own", status, n, own(first, kind, n))?;
+    print_line(rt, "every", status, n, every(first, n))
 }
 
 // The line of document 01's case 11.
-fn put_case(out: &mut [u8], at: usize) -> usize {
-    let found = started(0x01);
-    let Read::Message(message) = found else {
-        return at;
+fn print_case(rt: &impl Print) -> io::Result<()> {
+    let Ok(message) = started(Kind::EndpointInfo) else {
+        return Ok(());
     };
-    let ns = [1u64, 11];
-    let a = ascii_lines::put_named(out, at, b"case", &ns);
-    put_edited(out, a, case_eleven(message))
+    print_line(rt, "case", 1, 11, case_eleven(message))
 }
 
 // The lines of all kinds at one number.
-fn put_at(out: &mut [u8], at: usize, n: u16) -> usize {
-    let a = put_kind(out, at, 0x00, n);
-    let b = put_kind(out, a, 0x01, n);
-    let c = put_kind(out, b, 0x02, n);
-    let d = put_kind(out, c, 0x03, n);
-    let e = put_kind(out, d, 0x04, n);
-    let f = put_kind(out, e, 0x11, n);
-    put_kind(out, f, 0x12, n)
+fn print_at(rt: &impl Print, n: u16) -> io::Result<()> {
+    for kind in [
+        Kind::EndpointDiscovery,
+        Kind::EndpointInfo,
+        Kind::DeviceIdentity,
+        Kind::EndpointName,
+        Kind::ProductInstanceId,
+        Kind::FunctionBlockInfo,
+        Kind::FunctionBlockName,
+    ] {
+        print_kind(rt, kind, n)?;
+    }
+    Ok(())
 }
 
 // Each flag by itself, then numbers that pass the largest of 4, 7, 8, 14 bits and of doubled 14 bits in the middle of a chain.
-fn put_all(out: &mut [u8]) -> usize {
-    let ns = [
-        1u16, 2, 4, 8, 16, 12, 13, 120, 125, 127, 251, 255, 8191, 8192, 16380, 65535,
-    ];
-    let mut p = put_case(out, 0);
-    let mut i = 0;
-    while i < 16 {
-        p = put_at(out, p, ns[i]);
-        i += 1;
-    }
-    p
-}
-
 fn main(rt: HostRuntime) -> io::Result<()> {
-    let mut out = [0u8; 32768];
-    let r = put_all(&mut out);
-    if r <= 32768 {
-        rt.write_all(&out[0..r])?;
+    print_case(&rt)?;
+    for n in [
+        1u16, 2, 4, 8, 16, 12, 13, 120, 125, 127, 251, 255, 8191, 8192, 16380, 65535,
+    ] {
+        print_at(&rt, n)?;
     }
     Ok(())
 }

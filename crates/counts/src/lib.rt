@@ -5,7 +5,7 @@ ghost use Rattle.std.specs.Prelude.{◌≡◌};
 ghost use Rattle.counts.specs.Counts.{first_word, whole_packets, wrapped};
 
 // A packet of a message, or a number of packets.
-#[derive(Clone, Copy)]
+#[derive(Clone, Copy, PartialEq, Eq, PartialOrd, Ord)]
 pub struct PacketNumber(pub usize);
 
 // A word of a slice, or a number of words.
@@ -23,9 +23,9 @@ pub fn whole_packets(words: WordNumber) -> PacketNumber
     PacketNumber(words.0 / 4)
 }
 
-// The first word of a packet. `%` makes it total: it changes no number of a packet that a slice can hold.
+// The first word of a packet. The product may wrap, so that every packet has one; no packet that a slice can hold has one that wraps.
 pub fn first_word(packet: PacketNumber) -> WordNumber
     ensures { result ≡ wrapped (first_word packet) }
 {
-    WordNumber(packet.0 % 0x4000_0000_0000_0000 * 4)
+    WordNumber(packet.0.wrapping_mul(4))
 }

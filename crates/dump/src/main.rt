@@ -2,29 +2,19 @@
 // It always ends with status 0: what goes wrong is told on standard error.
 #![tactic(auto)]
 
-ghost use Rattle.whole_input.specs.Counts.{IsPrefixLen};
-
 use std::env::{Env, FillError};
 use std::io::Read;
-use whole_input::{Taken, read_full};
-
-// Reads until input is full, there is no more, or a read fails.
-fn read_input(stdin: &mut impl Read, input: &mut [u8]) -> Taken
-    ensures { IsPrefixLen result.bytes input.new }
-{
-    read_full(stdin, input)
-}
+use whole_input::{bytes_read, read_full};
 
 fn list_input(rt: &(impl Print + Eprint), stdin: &mut impl Read) {
     // One byte more than is listed, to see whether there is more.
     let mut input = [0u8; 32769];
-    let taken = read_input(stdin, &mut input);
-    if taken.failed {
+    let read = read_full(stdin, &mut input);
+    if read.is_err() {
         let _ = rt.eprintln("dump: the input could not be read");
     }
-    let n = taken.bytes;
     let mut out = [0u8; listing::LISTING_ROOM];
-    let r = listing::list(&input[..n], &mut out);
+    let r = listing::list(&input[..bytes_read(read)], &mut out);
     if rt.write_all(&out[..r]).is_err() {
         let _ = rt.eprintln("dump: the output could not be written");
     }

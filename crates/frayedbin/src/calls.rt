@@ -12,25 +12,23 @@ ghost use Rattle.frayedbin.specs.Calls.{place_at, words_of_type, fresh_in, write
 
 use c_structs::answers::{
     Answered, PacketAnswer, RecordAnswer, SizeAnswer, StepAnswer, TextAnswer, WalkAnswer,
-    of_answer, of_copy, of_end, of_found, of_fresh, of_other, of_packet, of_read, of_refusal,
-    of_size, of_step, of_walk_refused, refused_record,
 };
 use counts::{PacketNumber, TextByteNumber, WordNumber};
-use kinds::kind::{Kind, Known};
+use kinds::kind::Kind;
 use kinds::refusal::Refusal;
 use numbers::Numbers;
 use numbers::of_record::{
     no_numbers, of_device_identity, of_endpoint_discovery, of_endpoint_info,
     of_function_block_info, of_text,
 };
-use numbers::to_record::{FromNumbers, fixed_record};
+use numbers::to_record::fixed_record;
 use reading::heads::type_of;
 use reading::{by_byte, message, packet};
 use records::answers::Walked;
 use records::message::Message;
 use table::rows::kind_of;
 use text::TextPlace;
-use text_copy::{TextCopy, copy_kind};
+use text_copy::{NotCopied, copy_kind};
 use walking::helpers::other_size;
 use walking::size_of;
 
@@ -38,7 +36,7 @@ use walking::size_of;
 pub extern "C" fn frayedbin_read(words: &[u32]) -> RecordAnswer
     ensures { result ≡ read_crossed (read_of words.now) }
 {
-    of_read(message::read(words))
+    RecordAnswer::from(message::read(words))
 }
 
 // Fast path: another type is answered from its size alone. Each kind returns by itself: its numbers go straight into the answer,
@@ -48,35 +46,40 @@ pub extern "C" fn frayedbin_read(words: &[u32]) -> RecordAnswer
 pub extern "C" fn frayedbin_walk(words: &[u32], position: usize) -> WalkAnswer
     ensures { result ≡ walk_crossed (walk_of words.now position) }
 {
-    let size = other_size(words, WordNumber(position)).0;
-    if size != 0 {
-        return of_other(type_of(words[position]) as u32, size, position + size);
+    if let Some(size) = other_size(words, WordNumber(position)) {
+        return WalkAnswer::other(type_of(words[position]) as u32, size.0, position + size.0);
     }
     match walking::walk(&words[0..], WordNumber(position)) {
-        Walked::End => return of_end(),
+        Walked::End => return WalkAnswer::end(),
         Walked::Other {
             ump_type,
             size,
             next,
-        } => return of_other(ump_type, size.0, next.0),
-        Walked::Refused { refusal, next } => return of_walk_refused(refusal, next.0),
+        } => return WalkAnswer::other(ump_type, size.0, next.0),
+        Walked::Refused { refusal, next } => return WalkAnswer::refused(refusal, next.0),
         Walked::Message { message, next } => match message {
-            Message::EndpointDiscovery(e) => return of_found(of_endpoint_discovery(e), next.0),
-            Message::EndpointInfo(e) => return of_found(of_endpoint_info(e), next.0),
-            Message::DeviceIdentity(e) => return of_found(of_device_identity(e), next.0),
-            Message::EndpointName(n) => return of_found(
+            Message::EndpointDiscovery(e) => return WalkAnswer::found(
+                of_endpoint_discovery(e),
+                next.0,
+            ),
+            Message::EndpointInfo(e) => return WalkAnswer::found(of_endpoint_info(e), next.0),
+            Message::DeviceIdentity(e) => return WalkAnswer::found(of_device_identity(e), next.0),
+            Message::EndpointName(n) => return WalkAnswer::found(
                 of_text(Kind::EndpointName, n.0, 0),
                 next.0,
             ),
-            Message::ProductInstanceId(n) => return of_found(
+            Message::ProductInstanceId(n) => return WalkAnswer::found(
                 of_text(Kind::ProductInstanceId, n.0, 0),
                 next.0,
             ),
-            Message::FunctionBlockInfo(e) => return of_found(of_function_block_info(e), next.0),
+            Message::FunctionBlockInfo(e) => return WalkAnswer::found(
+                of_function_block_info(e),
+                next.0,
+            ),
             Message::FunctionBlockName {
                 function_block,
                 packets,
-            } => return of_found(
+            } => return WalkAnswer::found(
                 of_text(Kind::FunctionBlockName, packets.0, function_block as u32),
                 next.0,
             ),
@@ -100,14 +103,14 @@ pub extern "C" fn frayedbin_words_of_type(ump_type: u32) -> usize
 pub extern "C" fn frayedbin_packet(words: &[u32]) -> PacketAnswer
     ensures { result ≡ packet_crossed (packet_of words.now) }
 {
-    of_packet(packet::packet(words))
+    PacketAnswer::from(packet::packet(words))
 }
 
 #[unsafe(no_mangle)]
 pub extern "C" fn frayedbin_message_size(words: &[u32]) -> SizeAnswer
     ensures { result ≡ size_crossed (message_size words.now) }
 {
-    of_size(packet::message_size(words))
+    SizeAnswer::from(packet::message_size(words))
 }
 
 // The text byte at a place or after it, and the place to go on from.
@@ -123,7 +126,7 @@ pub extern "C" fn frayedbin_next_byte(
         packet: PacketNumber(packet),
         byte: TextByteNumber(byte_number),
     };
-    of_step(by_byte::next_byte(words, place))
+    StepAnswer::from(by_byte::next_byte(words, place))
 }
 
 // The whole text of one message. It reads by `frayedbin_read`: a second caller of `read` would keep the compiler from inlining that.
@@ -141,8 +144,8 @@ pub extern "C" fn frayedbin_text(words: &[u32], out: &mut [u8]) -> TextAnswer
         };
     }
     match kind_of(read.numbers.status) {
-        Known::Is(kind) => of_copy(copy_kind(kind, words, out)),
-        Known::Unknown => of_copy(TextCopy::Refused(Refusal::UnknownStatus)),
+        Some(kind) => TextAnswer::from(copy_kind(kind, words, out)),
+        None => TextAnswer::from(Err(NotCopied::Refused(Refusal::UnknownStatus))),
     }
 }
 
@@ -151,7 +154,7 @@ pub extern "C" fn frayedbin_fresh(words: &mut [u32], status: u32) -> Answered
     ensures answer { result ≡ answered (fresh_on status words.old).answer }
     ensures buffer { words.new ≡ (fresh_on status words.old).words }
 {
-    of_answer(writing::fresh::fresh(words, status))
+    Answered::from(writing::fresh::fresh(words, status))
 }
 
 #[unsafe(no_mangle)]
@@ -159,8 +162,8 @@ pub extern "C" fn frayedbin_record_fresh(status: u32) -> RecordAnswer
     ensures { result ≡ fresh_in status }
 {
     match kind_of(status) {
-        Known::Is(kind) => of_fresh(kind),
-        Known::Unknown => refused_record(Refusal::UnknownStatus, no_numbers()),
+        Some(kind) => RecordAnswer::fresh(kind),
+        None => RecordAnswer::refused(Refusal::UnknownStatus, no_numbers()),
     }
 }
 
@@ -170,8 +173,8 @@ pub extern "C" fn frayedbin_write(words: &mut [u32], record: Numbers) -> Answere
     ensures buffer { words.new ≡ (write_in «record» words.old).words }
 {
     match fixed_record(record) {
-        FromNumbers::Message(message) => of_answer(writing::write::write(words, message)),
-        FromNumbers::Refused(refusal) => of_refusal(refusal),
+        Ok(message) => Answered::from(writing::write::write(words, message)),
+        Err(refusal) => Answered::from(refusal),
     }
 }
 

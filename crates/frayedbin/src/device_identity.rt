@@ -6,10 +6,10 @@ ghost use Rattle.c_structs.specs.Crossed.{answered};
 ghost use Rattle.frayedbin.specs.Calls.{set_in};
 
 use crate::named;
-use c_structs::answers::{Answered, RecordAnswer, of_answer, of_edited, refused_record};
+use c_structs::answers::{Answered, RecordAnswer};
 use kinds::kind::Kind;
 use numbers::Numbers;
-use numbers::to_record::{FromNumbers, record_of};
+use numbers::to_record::record_of;
 use settings::device_identity;
 use table::names::PairName;
 
@@ -23,7 +23,7 @@ pub extern "C" fn frayedbin_device_identity_set_device_manufacturer(
     ensures answer { result ≡ answered (set_on (Setting.device_manufacturer a b c) words.old).answer }
     ensures buffer { words.new ≡ (set_on (Setting.device_manufacturer a b c) words.old).words }
 {
-    of_answer(device_identity::set_device_manufacturer(words, a, b, c))
+    Answered::from(device_identity::set_device_manufacturer(words, a, b, c))
 }
 
 #[unsafe(no_mangle)]
@@ -59,7 +59,7 @@ pub extern "C" fn frayedbin_device_identity_set_software_version(
     ensures answer { result ≡ answered (set_on (Setting.software_version a b c d) words.old).answer }
     ensures buffer { words.new ≡ (set_on (Setting.software_version a b c d) words.old).words }
 {
-    of_answer(device_identity::set_software_version(words, a, b, c, d))
+    Answered::from(device_identity::set_software_version(words, a, b, c, d))
 }
 
 // On a record.
@@ -73,23 +73,20 @@ pub extern "C" fn frayedbin_record_set_device_manufacturer(
 ) -> RecordAnswer
     ensures { result ≡ set_in (λ k. Setting.device_manufacturer a b c) «record» }
 {
-    match record_of(Kind::DeviceIdentity, record) {
-        FromNumbers::Message(message) => of_edited(
-            message.set_device_manufacturer(a, b, c),
-            record,
-        ),
-        FromNumbers::Refused(refusal) => refused_record(refusal, record),
-    }
+    let edited = record_of(Kind::DeviceIdentity, record).map(
+        |message| message.set_device_manufacturer(a, b, c),
+    );
+    RecordAnswer::edited(edited, record)
 }
 
 #[unsafe(no_mangle)]
 pub extern "C" fn frayedbin_record_set_device_family(record: Numbers, family: u32) -> RecordAnswer
     ensures { result ≡ set_in (λ k. Setting.pair Pair.device_family family) «record» }
 {
-    match record_of(Kind::DeviceIdentity, record) {
-        FromNumbers::Message(message) => of_edited(message.set_device_family(family), record),
-        FromNumbers::Refused(refusal) => refused_record(refusal, record),
-    }
+    let edited = record_of(Kind::DeviceIdentity, record).map(|message| message.set_device_family(
+        family,
+    ));
+    RecordAnswer::edited(edited, record)
 }
 
 #[unsafe(no_mangle)]
@@ -99,13 +96,10 @@ pub extern "C" fn frayedbin_record_set_device_family_model_number(
 ) -> RecordAnswer
     ensures { result ≡ set_in (λ k. Setting.pair Pair.device_family_model_number model) «record» }
 {
-    match record_of(Kind::DeviceIdentity, record) {
-        FromNumbers::Message(message) => of_edited(
-            message.set_device_family_model_number(model),
-            record,
-        ),
-        FromNumbers::Refused(refusal) => refused_record(refusal, record),
-    }
+    let edited = record_of(Kind::DeviceIdentity, record).map(
+        |message| message.set_device_family_model_number(model),
+    );
+    RecordAnswer::edited(edited, record)
 }
 
 #[unsafe(no_mangle)]
@@ -118,11 +112,8 @@ pub extern "C" fn frayedbin_record_set_software_version(
 ) -> RecordAnswer
     ensures { result ≡ set_in (λ k. Setting.software_version a b c d) «record» }
 {
-    match record_of(Kind::DeviceIdentity, record) {
-        FromNumbers::Message(message) => of_edited(
-            message.set_software_version(a, b, c, d),
-            record,
-        ),
-        FromNumbers::Refused(refusal) => refused_record(refusal, record),
-    }
+    let edited = record_of(Kind::DeviceIdentity, record).map(|message| message.set_software_version(
+        a, b, c, d,
+    ));
+    RecordAnswer::edited(edited, record)
 }

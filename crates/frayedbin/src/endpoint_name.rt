@@ -4,7 +4,7 @@ ghost use Rattle.kinds.specs.Fields.{Text, Setting};
 ghost use Rattle.standard.specs.Words.{set_on};
 ghost use Rattle.c_structs.specs.Crossed.{answered};
 
-use c_structs::answers::{Answered, of_answer};
+use c_structs::answers::Answered;
 use text_settings::endpoint_name;
 
 #[unsafe(no_mangle)]
@@ -12,5 +12,5 @@ pub extern "C" fn frayedbin_endpoint_name_set_name(words: &mut [u32], name: &[u8
     ensures answer { result ≡ answered (set_on (Setting.text Text.endpoint_name name.now) words.old).answer }
     ensures buffer { words.new ≡ (set_on (Setting.text Text.endpoint_name name.now) words.old).words }
 {
-    of_answer(endpoint_name::set_name(words, name))
+    Answered::from(endpoint_name::set_name(words, name))
 }

@@ -6,14 +6,11 @@ ghost use Rattle.c_structs.specs.Crossed.{answered};
 ghost use Rattle.frayedbin.specs.Calls.{beyond, hint_on, port_on, direction_on, set_in, hint_in, port_in, direction_in};
 
 use crate::named;
-use c_structs::answers::{Answered, RecordAnswer, of_answer, of_edited, refused_record};
-use c_structs::choices::{
-    DirectionFromCode, HintFromCode, PortFromCode, direction_from_code, hint_from_code,
-    port_from_code,
-};
+use c_structs::answers::{Answered, RecordAnswer};
+use kinds::choices::{Direction, Midi1Port, UiHint};
 use kinds::kind::Kind;
 use numbers::Numbers;
-use numbers::to_record::{FromNumbers, record_of};
+use numbers::to_record::record_of;
 use settings::choices;
 use table::names::{FlagName, NumberName};
 
@@ -44,6 +41,7 @@ fn no_choice_on(words: &mut [u32]) -> Answered
     named::number_on(words, NumberName::FunctionBlockNumber, 128)
 }
 
+// The three choices go by a match each: one function for all would take the setting as a closure with a contract, and be longer.
 #[unsafe(no_mangle)]
 pub extern "C" fn frayedbin_function_block_info_set_ui_hint(
     words: &mut [u32],
@@ -52,9 +50,9 @@ pub extern "C" fn frayedbin_function_block_info_set_ui_hint(
     ensures answer { result ≡ answered (hint_on code words.old).answer }
     ensures buffer { words.new ≡ (hint_on code words.old).words }
 {
-    match hint_from_code(code) {
-        HintFromCode::Is(hint) => of_answer(choices::set_ui_hint(words, hint)),
-        HintFromCode::NoChoice => no_choice_on(words),
+    match UiHint::try_from(code) {
+        Ok(hint) => Answered::from(choices::set_ui_hint(words, hint)),
+        Err(_) => no_choice_on(words),
     }
 }
 
@@ -66,9 +64,9 @@ pub extern "C" fn frayedbin_function_block_info_set_midi1_port(
     ensures answer { result ≡ answered (port_on code words.old).answer }
     ensures buffer { words.new ≡ (port_on code words.old).words }
 {
-    match port_from_code(code) {
-        PortFromCode::Is(port) => of_answer(choices::set_midi1_port(words, port)),
-        PortFromCode::NoChoice => no_choice_on(words),
+    match Midi1Port::try_from(code) {
+        Ok(port) => Answered::from(choices::set_midi1_port(words, port)),
+        Err(_) => no_choice_on(words),
     }
 }
 
@@ -80,9 +78,9 @@ pub extern "C" fn frayedbin_function_block_info_set_direction(
     ensures answer { result ≡ answered (direction_on code words.old).answer }
     ensures buffer { words.new ≡ (direction_on code words.old).words }
 {
-    match direction_from_code(code) {
-        DirectionFromCode::Is(direction) => of_answer(choices::set_direction(words, direction)),
-        DirectionFromCode::NoChoice => no_choice_on(words),
+    match Direction::try_from(code) {
+        Ok(direction) => Answered::from(choices::set_direction(words, direction)),
+        Err(_) => no_choice_on(words),
     }
 }
 
@@ -160,39 +158,39 @@ fn no_choice_in(record: Numbers) -> RecordAnswer
 pub extern "C" fn frayedbin_record_set_ui_hint(record: Numbers, code: u32) -> RecordAnswer
     ensures { result ≡ hint_in code «record» }
 {
-    match hint_from_code(code) {
-        HintFromCode::Is(hint) => match record_of(Kind::FunctionBlockInfo, record) {
-            FromNumbers::Message(message) => of_edited(message.set_ui_hint(hint), record),
-            FromNumbers::Refused(refusal) => refused_record(refusal, record),
-        },
-        HintFromCode::NoChoice => no_choice_in(record),
-    }
+    let Ok(hint) = UiHint::try_from(code) else {
+        return no_choice_in(record);
+    };
+    let edited = record_of(Kind::FunctionBlockInfo, record).map(|message| message.set_ui_hint(
+        hint,
+    ));
+    RecordAnswer::edited(edited, record)
 }
 
 #[unsafe(no_mangle)]
 pub extern "C" fn frayedbin_record_set_midi1_port(record: Numbers, code: u32) -> RecordAnswer
     ensures { result ≡ port_in code «record» }
 {
-    match port_from_code(code) {
-        PortFromCode::Is(port) => match record_of(Kind::FunctionBlockInfo, record) {
-            FromNumbers::Message(message) => of_edited(message.set_midi1_port(port), record),
-            FromNumbers::Refused(refusal) => refused_record(refusal, record),
-        },
-        PortFromCode::NoChoice => no_choice_in(record),
-    }
+    let Ok(port) = Midi1Port::try_from(code) else {
+        return no_choice_in(record);
+    };
+    let edited = record_of(Kind::FunctionBlockInfo, record).map(|message| message.set_midi1_port(
+        port,
+    ));
+    RecordAnswer::edited(edited, record)
 }
 
 #[unsafe(no_mangle)]
 pub extern "C" fn frayedbin_record_set_direction(record: Numbers, code: u32) -> RecordAnswer
     ensures { result ≡ direction_in code «record» }
 {
-    match direction_from_code(code) {
-        DirectionFromCode::Is(direction) => match record_of(Kind::FunctionBlockInfo, record) {
-            FromNumbers::Message(message) => of_edited(message.set_direction(direction), record),
-            FromNumbers::Refused(refusal) => refused_record(refusal, record),
-        },
-        DirectionFromCode::NoChoice => no_choice_in(record),
-    }
+    let Ok(direction) = Direction::try_from(code) else {
+        return no_choice_in(record);
+    };
+    let edited = record_of(Kind::FunctionBlockInfo, record).map(|message| message.set_direction(
+        direction,
+    ));
+    RecordAnswer::edited(edited, record)
 }
 
 #[unsafe(no_mangle)]

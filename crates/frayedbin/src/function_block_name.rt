@@ -5,10 +5,10 @@ ghost use Rattle.standard.specs.Words.{set_on};
 ghost use Rattle.c_structs.specs.Crossed.{answered};
 ghost use Rattle.frayedbin.specs.Calls.{set_in};
 
-use c_structs::answers::{Answered, RecordAnswer, of_answer, of_edited, refused_record};
+use c_structs::answers::{Answered, RecordAnswer};
 use kinds::kind::Kind;
 use numbers::Numbers;
-use numbers::to_record::{FromNumbers, record_of};
+use numbers::to_record::record_of;
 use text_settings::function_block_name;
 
 #[unsafe(no_mangle)]
@@ -19,7 +19,7 @@ pub extern "C" fn frayedbin_function_block_name_set_function_block(
     ensures answer { result ≡ answered (set_on (Setting.number Number.function_block number) words.old).answer }
     ensures buffer { words.new ≡ (set_on (Setting.number Number.function_block number) words.old).words }
 {
-    of_answer(function_block_name::set_function_block(words, number))
+    Answered::from(function_block_name::set_function_block(words, number))
 }
 
 #[unsafe(no_mangle)]
@@ -27,7 +27,7 @@ pub extern "C" fn frayedbin_function_block_name_set_name(words: &mut [u32], name
     ensures answer { result ≡ answered (set_on (Setting.text Text.function_block_name name.now) words.old).answer }
     ensures buffer { words.new ≡ (set_on (Setting.text Text.function_block_name name.now) words.old).words }
 {
-    of_answer(function_block_name::set_name(words, name))
+    Answered::from(function_block_name::set_name(words, name))
 }
 
 // On a record.
@@ -36,8 +36,8 @@ pub extern "C" fn frayedbin_function_block_name_set_name(words: &mut [u32], name
 pub extern "C" fn frayedbin_record_set_function_block(record: Numbers, number: u32) -> RecordAnswer
     ensures { result ≡ set_in (λ k. Setting.number Number.function_block number) «record» }
 {
-    match record_of(Kind::FunctionBlockName, record) {
-        FromNumbers::Message(message) => of_edited(message.set_function_block(number), record),
-        FromNumbers::Refused(refusal) => refused_record(refusal, record),
-    }
+    let edited = record_of(Kind::FunctionBlockName, record).map(
+        |message| message.set_function_block(number),
+    );
+    RecordAnswer::edited(edited, record)
 }

@@ -1,4 +1,5 @@
 // The library that C and Rust link: every public call under one prefix, its answer a struct of numbers.
+// A function for each field of each kind, and codes and places as numbers: C has no generics, and no enums with values.
 #![tactic(auto)]
 
 mod about;

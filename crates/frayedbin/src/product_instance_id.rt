@@ -4,7 +4,7 @@ ghost use Rattle.kinds.specs.Fields.{Text, Setting};
 ghost use Rattle.standard.specs.Words.{set_on};
 ghost use Rattle.c_structs.specs.Crossed.{answered};
 
-use c_structs::answers::{Answered, of_answer};
+use c_structs::answers::Answered;
 use text_settings::product_instance_id;
 
 #[unsafe(no_mangle)]
@@ -12,5 +12,5 @@ pub extern "C" fn frayedbin_product_instance_id_set_id(words: &mut [u32], id: &[
     ensures answer { result ≡ answered (set_on (Setting.text Text.product_instance_id id.now) words.old).answer }
     ensures buffer { words.new ≡ (set_on (Setting.text Text.product_instance_id id.now) words.old).words }
 {
-    of_answer(product_instance_id::set_id(words, id))
+    Answered::from(product_instance_id::set_id(words, id))
 }

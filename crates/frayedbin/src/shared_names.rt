@@ -1,4 +1,5 @@
 // Settings on a record under names that two kinds have: of status 0x00 the discovery's, else the endpoint info's.
+// The status is compared as the number that C gives: a match on its kind does not prove (its last arm does not say that the kind is another).
 ghost use Rattle.std.specs.Prelude.{◌≡◌};
 ghost use Rattle.kinds.specs.Fields.{Setting};
 ghost use Rattle.records.specs.Settings.{major_of, minor_of};

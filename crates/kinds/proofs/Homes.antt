@@ -1,4 +1,5 @@
 -- A field is of one kind, and every other kind lacks it. Closed by computing the table once, row by row.
+use Rattle.std.specs.Prelude.{Some}
 use Prim.Native.Nat.{ℕ}
 use mathlib.Core.Path.{◌≡◌, refl, sym, ap, ◌∙◌}
 use mathlib.Core.Bool.{Bool, true, false}
@@ -9,7 +10,6 @@ use Rattle.laws.specs.Pick.{pick, both}
 use Rattle.laws.proofs.Pick.{true_false, both_left, both_right, split}
 use Rattle.slots.specs.Slots.{Slot, those}
 use Rattle.kinds.specs.declared.kind.Kind.{Kind}
-use Rattle.kinds.specs.declared.kind.Known.TheVariants.{Is}
 use Rattle.kinds.specs.Fields.{Field, same, decided}
 use Rattle.kinds.specs.Layout.{Part, layout, kinds, kind_of, none, slots_of}
 use Rattle.kinds.proofs.Rows.{status_kind, every_kind, at_kind}
@@ -43,7 +43,7 @@ home_is k f h = eqb-true _ _ (each-field (λ g. eqb (home kinds g) (layout k).st
 
 -- a status is of one kind
 pub one_status : (j k : Kind) → (layout j).status ≡ (layout k).status → j ≡ k
-one_status j k e = let q : Is j ≡ Is k = sym (status_kind j) ∙ ap kind_of e ∙ status_kind k in cc
+one_status j k e = let q : Some j ≡ Some k = sym (status_kind j) ∙ ap kind_of e ∙ status_kind k in cc
 
 -- two kinds that have a field are one
 one_kind : (j k : Kind) (f : Field) → none (slots_of f (layout j).fields) ≡ false → none (slots_of f (layout k).fields) ≡ false → j ≡ k

@@ -1,4 +1,5 @@
 -- A test of every kind, told at one; the table is right, row by row, and what that tells of a row. Closed by computation: the tests are run over each row.
+use Rattle.std.specs.Prelude.{Some}
 use Prim.Native.Nat.{ℕ, ◌≤◌, ◌<◌}
 use mathlib.Core.Path.{◌≡◌, refl, sym, ap, ◌∙◌}
 use mathlib.Core.Bool.{Bool, true, false}
@@ -13,12 +14,11 @@ use Rattle.slots.specs.Slots.{Slot, mask, fits, disjoint, apart_from_all, words_
 use Rattle.slots.proofs.Tables.{words_below_more}
 use Rattle.kinds.specs.declared.kind.Kind.{Kind}
 use Rattle.kinds.specs.declared.kind.Kind.TheVariants as K
-use Rattle.kinds.specs.declared.kind.Known.TheVariants.{Is}
 use Rattle.kinds.specs.Fields.{Flag, Number, Pair, Field, Text, start, part_of}
 use Rattle.kinds.specs.Layout.{Part, Body, fixed, texts, Row, layout, capacity_in, capacity_of, most_in, kinds, kind_of, among, parts, head_slot, text_slot, right, right_body, discovery_fields, info_fields, identity_fields, block_fields, name_fields}
 
 -- a kind's status is its own
-pub status_kind : (k : Kind) → kind_of (layout k).status ≡ Is k
+pub status_kind : (k : Kind) → kind_of (layout k).status ≡ Some k
 unfolding layout among
 status_kind K.EndpointDiscovery = refl
 status_kind K.EndpointInfo = refl
@@ -29,12 +29,12 @@ status_kind K.FunctionBlockInfo = refl
 status_kind K.FunctionBlockName = refl
 
 -- a kind that a status is known as has that status
-pub among_status : (ks : List Kind) (s : ℕ) (k : Kind) → among ks s ≡ Is k → s ≡ (layout k).status
+pub among_status : (ks : List Kind) (s : ℕ) (k : Kind) → among ks s ≡ Some k → s ≡ (layout k).status
 unfolding among
 among_status [] s k e = never (cc)
 among_status (j ∷ ks) s k e = go (eqb s (layout j).status) refl e (among_status ks s k)
   where
-    go : (b : Bool) → eqb s (layout j).status ≡ b → pick b (Is j) (among ks s) ≡ Is k → (among ks s ≡ Is k → s ≡ (layout k).status) → s ≡ (layout k).status
+    go : (b : Bool) → eqb s (layout j).status ≡ b → pick b (Some j) (among ks s) ≡ Some k → (among ks s ≡ Some k → s ≡ (layout k).status) → s ≡ (layout k).status
     go true t q ih = let w : j ≡ k = cc in eqb-true s (layout j).status t ∙ ap (λ (i : Kind). (layout i).status) w
     go false t q ih = ih q
 
@@ -44,12 +44,12 @@ unfoldable pub every_kind : (Kind → Bool) → List Kind → Bool
 every_kind t [] = true
 every_kind t (k ∷ ks) = both (t k) (every_kind t ks)
 
-every_among : (t : Kind → Bool) (ks : List Kind) (s : ℕ) (k : Kind) → every_kind t ks ≡ true → among ks s ≡ Is k → t k ≡ true
+every_among : (t : Kind → Bool) (ks : List Kind) (s : ℕ) (k : Kind) → every_kind t ks ≡ true → among ks s ≡ Some k → t k ≡ true
 unfolding every_kind among
 every_among t [] s k e q = never (cc)
 every_among t (j ∷ ks) s k e q = go (eqb s (layout j).status) q (every_among t ks s k (both_right _ _ e))
   where
-    go : (b : Bool) → pick b (Is j) (among ks s) ≡ Is k → (among ks s ≡ Is k → t k ≡ true) → t k ≡ true
+    go : (b : Bool) → pick b (Some j) (among ks s) ≡ Some k → (among ks s ≡ Some k → t k ≡ true) → t k ≡ true
     go true a ih = let w : j ≡ k = cc in ap t (sym w) ∙ both_left _ _ e
     go false a ih = ih a
 

@@ -1,5 +1,5 @@
 -- The codes of the named choices, and the choice of a code.
-use Rattle.std.specs.Prelude.{ℕ, eqb}
+use Rattle.std.specs.Prelude.{ℕ, ltb, eqb, Result, Ok, Err}
 use Rattle.laws.specs.Pick.{pick}
 use Rattle.kinds.specs.declared.choices.UiHint.{UiHint}
 use Rattle.kinds.specs.declared.choices.UiHint.TheVariants as H
@@ -7,6 +7,7 @@ use Rattle.kinds.specs.declared.choices.Midi1Port.{Midi1Port}
 use Rattle.kinds.specs.declared.choices.Midi1Port.TheVariants as P
 use Rattle.kinds.specs.declared.choices.Direction.{Direction}
 use Rattle.kinds.specs.declared.choices.Direction.TheVariants as D
+use Rattle.kinds.specs.declared.choices.NoChoice.{NoChoice}
 use Rattle.kinds.specs.declared.choices.Format.{Format}
 use Rattle.kinds.specs.declared.choices.Format.TheVariants as F
 
@@ -53,3 +54,16 @@ format_code F.End = 3
 
 abbrev pub format_from : ℕ → Format
 format_from n = pick (eqb n 0) F.Complete (pick (eqb n 1) F.Start (pick (eqb n 2) F.Continue F.End))
+
+-- ---- a choice from its code, or that the code names none: none has a code above 3, nor is 3 a port or 0 a direction
+abbrev unnamed : {A : Type 0} → Result A NoChoice
+unnamed = Err (record {})
+
+abbrev pub hint_from_code : ℕ → Result UiHint NoChoice
+hint_from_code n = pick (ltb 3 n) unnamed (Ok (hint_of n))
+
+abbrev pub port_from_code : ℕ → Result Midi1Port NoChoice
+port_from_code n = pick (ltb 3 n) unnamed (pick (eqb n no_port) unnamed (Ok (port_of n)))
+
+abbrev pub direction_from_code : ℕ → Result Direction NoChoice
+direction_from_code n = pick (ltb 3 n) unnamed (pick (eqb n no_direction) unnamed (Ok (direction_of n)))

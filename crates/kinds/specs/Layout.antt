@@ -1,13 +1,11 @@
 -- THE TABLE: each kind's status, where each of its fields stands, and where its text starts.
 -- Reading, writing, settings and the listing all go by it, in its order.
-use Rattle.std.specs.Prelude.{ℕ, ◌-◌, ◌*◌, Bool, true, false, List, [], ◌∷◌, eqb, leb}
+use Rattle.std.specs.Prelude.{ℕ, ◌-◌, ◌*◌, Bool, true, false, List, [], ◌∷◌, eqb, leb, Option, Some, None}
 use Rattle.laws.specs.Pick.{pick, both}
 use Rattle.laws.specs.Lists.{map}
 use Rattle.slots.specs.Slots.{Slot, get, those, apart_from_all, disjoint, words_below, bits_within}
 use Rattle.kinds.specs.declared.kind.Kind.{Kind}
 use Rattle.kinds.specs.declared.kind.Kind.TheVariants as K
-use Rattle.kinds.specs.declared.kind.Known.{Known}
-use Rattle.kinds.specs.declared.kind.Known.TheVariants.{Is, Unknown}
 use Rattle.kinds.specs.Fields.{Flag, Number, Pair, Text, Field, same, start, part_of, joined, Setting, value_in}
 
 -- whose number stands in a slot, and which of the field's numbers
@@ -136,11 +134,11 @@ has_text (texts t start) = true
 abbrev pub kinds : List Kind
 kinds = K.EndpointDiscovery ∷ K.EndpointInfo ∷ K.DeviceIdentity ∷ K.EndpointName ∷ K.ProductInstanceId ∷ K.FunctionBlockInfo ∷ K.FunctionBlockName ∷ []
 
-unfoldable pub among : List Kind → ℕ → Known
-among [] s = Unknown
-among (k ∷ ks) s = pick (eqb s (layout k).status) (Is k) (among ks s)
+unfoldable pub among : List Kind → ℕ → Option Kind
+among [] s = None
+among (k ∷ ks) s = pick (eqb s (layout k).status) (Some k) (among ks s)
 
-abbrev pub kind_of : ℕ → Known
+abbrev pub kind_of : ℕ → Option Kind
 kind_of s = among kinds s
 
 abbrev pub none : {A : Type 0} → List A → Bool

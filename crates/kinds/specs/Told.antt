@@ -1,12 +1,11 @@
 -- Document 01's sections "The seven kinds" and "Refusal numbers" told once more, by examples in plain numbers: words and codes are written out by hand.
-use Rattle.std.specs.Prelude.{ℕ, ◌+◌, ◌*◌, ◌≡◌, true, false, List, [], ◌∷◌}
+use Rattle.std.specs.Prelude.{ℕ, ◌+◌, ◌*◌, ◌≡◌, true, false, List, [], ◌∷◌, Some, None}
 use Rattle.laws.specs.Pick.{pick}
 use Rattle.laws.specs.Lists.{map}
 use Rattle.slots.specs.Slots.{put_all, fits}
 use Rattle.counts.specs.Counts.{packet}
 use Rattle.kinds.specs.declared.kind.Kind.{Kind}
 use Rattle.kinds.specs.declared.kind.Kind.TheVariants as K
-use Rattle.kinds.specs.declared.kind.Known.TheVariants.{Is, Unknown}
 use Rattle.kinds.specs.declared.choices.UiHint.TheVariants as H
 use Rattle.kinds.specs.declared.choices.Midi1Port.TheVariants as P
 use Rattle.kinds.specs.declared.choices.Direction.TheVariants as D
@@ -118,9 +117,9 @@ other_block_info =
 pub record ToldTable : Type 0 where
   -- statuses 0x00, 0x01, 0x02, 0x03, 0x04, 0x11, 0x12, each way
   pub statuses : map (λ k. (layout k).status) (K.EndpointDiscovery ∷ K.EndpointInfo ∷ K.DeviceIdentity ∷ K.EndpointName ∷ K.ProductInstanceId ∷ K.FunctionBlockInfo ∷ K.FunctionBlockName ∷ []) ≡ 0x00 ∷ 0x01 ∷ 0x02 ∷ 0x03 ∷ 0x04 ∷ 0x11 ∷ 0x12 ∷ []
-  pub known : map kind_of (0x00 ∷ 0x01 ∷ 0x02 ∷ 0x03 ∷ 0x04 ∷ 0x11 ∷ 0x12 ∷ []) ≡ Is K.EndpointDiscovery ∷ Is K.EndpointInfo ∷ Is K.DeviceIdentity ∷ Is K.EndpointName ∷ Is K.ProductInstanceId ∷ Is K.FunctionBlockInfo ∷ Is K.FunctionBlockName ∷ []
+  pub known : map kind_of (0x00 ∷ 0x01 ∷ 0x02 ∷ 0x03 ∷ 0x04 ∷ 0x11 ∷ 0x12 ∷ []) ≡ Some K.EndpointDiscovery ∷ Some K.EndpointInfo ∷ Some K.DeviceIdentity ∷ Some K.EndpointName ∷ Some K.ProductInstanceId ∷ Some K.FunctionBlockInfo ∷ Some K.FunctionBlockName ∷ []
   -- the other five kinds of the standard are unknown, and so is a status above eight bits that ends like a known one
-  pub unknown : map kind_of (0x05 ∷ 0x06 ∷ 0x10 ∷ 0x20 ∷ 0x21 ∷ 0x112 ∷ []) ≡ Unknown ∷ Unknown ∷ Unknown ∷ Unknown ∷ Unknown ∷ Unknown ∷ []
+  pub unknown : map kind_of (0x05 ∷ 0x06 ∷ 0x10 ∷ 0x20 ∷ 0x21 ∷ 0x112 ∷ []) ≡ None ∷ None ∷ None ∷ None ∷ None ∷ None ∷ []
   -- endpoint-discovery: version in octets 2 and 3 of word 0, five requests in bits 0..4 of word 1
   pub discovery : Holds K.EndpointDiscovery some_discovery (0xF00091A2 ∷ 0x0000000D ∷ 0 ∷ 0 ∷ []) (0xFFFF91A2 ∷ 0xFFFFFFED ∷ 0xFFFFFFFF ∷ 0xFFFFFFFF ∷ [])
   pub asks_info : Gives K.EndpointDiscovery (flag Flag.request_endpoint_info) (0xF0000000 ∷ 0x01 ∷ 0 ∷ 0 ∷ [])

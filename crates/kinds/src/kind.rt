@@ -1,6 +1,6 @@
 // The seven kinds.
 
-#[derive(Clone, Copy)]
+#[derive(Clone, Copy, PartialEq, Eq)]
 pub enum Kind {
     EndpointDiscovery,
     EndpointInfo,
@@ -9,11 +9,4 @@ pub enum Kind {
     ProductInstanceId,
     FunctionBlockInfo,
     FunctionBlockName,
-}
-
-// The kind of a status, where it has one.
-#[derive(Clone, Copy)]
-pub enum Known {
-    Is(Kind),
-    Unknown,
 }

@@ -3,44 +3,28 @@
 // the last are 32,768 bytes, one more, every kind, every other type, and every refusal that a walk gives.
 #![tactic(auto)]
 
-ghost use Rattle.std.specs.Prelude.{◌<◌};
+mod cases;
 
+use cases::Cases;
 use std::io;
-use whole_input::read_full;
+use whole_input::{bytes_read, read_full};
 
-fn wide(byte: u8) -> usize
-    ensures { result < 256 }
-{
-    byte as usize
+fn print_listing(rt: &impl Print, bytes: &[u8]) -> io::Result<()> {
+    let mut out = [0u8; listing::LISTING_ROOM];
+    let r = listing::list(bytes, &mut out);
+    rt.write_all(&out[..r])
 }
 
 // Prints the listing of each case.
-fn run(rt: &impl Print, input: &[u8], out: &mut [u8]) -> io::Result<()> {
-    let mut i = 0;
-    while i < input.len() {
-        if input.len() - i < 4 {
-            return Ok(());
-        }
-        let high = wide(input[i]) * 0x1000000 + wide(input[i + 1]) * 0x10000;
-        let low = wide(input[i + 2]) * 0x100 + wide(input[i + 3]);
-        let from = i + 4;
-        let count = high + low;
-        if input.len() - from < count {
-            return Ok(());
-        }
-        let to = from + count;
-        let r = listing::list(&input[from..to], out);
-        if r <= out.len() {
-            rt.write_all(&out[0..r])?;
-        }
-        i = to;
+fn print_cases(rt: &impl Print, cases: Cases<'_>) -> io::Result<()> {
+    for bytes in cases {
+        print_listing(rt, bytes)?;
     }
     Ok(())
 }
 
 fn main(rt: HostRuntime) -> io::Result<()> {
     let mut input = [0u8; 131072];
-    let n = read_full(&mut rt.stdin(), &mut input).bytes;
-    let mut out = [0u8; listing::LISTING_ROOM];
-    run(&rt, &input[..n], &mut out)
+    let n = bytes_read(read_full(&mut rt.stdin(), &mut input));
+    print_cases(&rt, Cases(&input[..n]))
 }

@@ -1,4 +1,5 @@
 -- A line takes at most 17 bytes for each word that it passes, so 139,275 bytes hold any listing. Closed by counting digits at each answer of the walk.
+use Rattle.std.specs.Prelude.{Result, Ok, Err}
 use Prim.Native.Nat.{ℕ, zero, suc, ◌+◌, ◌-◌, ◌*◌, ◌/◌, ◌%◌, ◌≤◌, ◌<◌, min}
 use mathlib.Core.Path.{◌≡◌, refl, sym, ap}
 use mathlib.Core.Logic.{⊎_elim}
@@ -18,8 +19,6 @@ use Rattle.kinds.specs.declared.refusal.Refusal.{Refusal}
 use Rattle.kinds.specs.declared.refusal.Refusal.TheVariants.{TooFewWords, NotWholePackets, TooManyPackets, WrongType, UnknownStatus, StatusDiffers, WrongFormat, BlockNumberDiffers, BadPort, BadDirection, NotUtf8, NumberTooLarge, NoSuchField, NoRoom}
 use Rattle.kinds.specs.Refusals.{refusal_number, refusal_place}
 use Rattle.records.specs.declared.message.Message.{Message}
-use Rattle.records.specs.declared.answers.Read.{Read}
-use Rattle.records.specs.declared.answers.Read.TheVariants as R
 use Rattle.records.specs.declared.answers.Walked.{Walked}
 use Rattle.records.specs.declared.answers.Walked.TheVariants as W
 use Rattle.records.specs.Records.{packets_in}
@@ -108,9 +107,9 @@ module _ (ws : List ℕ) (pos : ℕ) (few : length ws ≤ 8192) (inside : pos < 
       (λ l. rw (le-ltb (length ws - pos) (size_of t) l) (other_fits t (pos + size_of t) h (omega (arith, size_some t))))
       (below (length ws - pos) (size_of t))
 
-  read_plain : (r : Read) (n : ℕ) → Near r → pos + 4 ≤ n → Plain ws pos (walked_of r n)
-  read_plain (R.Message m) n h l = tt
-  read_plain (R.Refused r) n h l = refused-fits r n h l
+  read_plain : (r : (Result Message Refusal)) (n : ℕ) → Near r → pos + 4 ≤ n → Plain ws pos (walked_of r n)
+  read_plain (Ok m) n h l = tt
+  read_plain (Err r) n h l = refused-fits r n h l
 
   framed_plain : (f : Framed) → Room ws pos f → Close f → Plain ws pos (framed_of f ws pos)
   unfolding framed_of

@@ -1,11 +1,9 @@
 -- The line of each answer of the walk. A line starts with the word position; single spaces; every line ends in a newline.
-use Rattle.std.specs.Prelude.{ℕ, List, [], ◌∷◌, ◌++◌}
+use Rattle.std.specs.Prelude.{ℕ, List, [], ◌∷◌, ◌++◌, Result, Ok, Err}
 use Rattle.counts.specs.declared.WordNumber.{WordNumber}
 use Rattle.text.specs.Bytes.{text_of}
 use Rattle.kinds.specs.declared.refusal.Refusal.{Refusal}
 use Rattle.records.specs.declared.message.Message.{Message}
-use Rattle.records.specs.declared.answers.Read.{Read}
-use Rattle.records.specs.declared.answers.Read.TheVariants as R
 use Rattle.records.specs.declared.answers.Walked.{Walked}
 use Rattle.records.specs.declared.answers.Walked.TheVariants as W
 use Rattle.kinds.specs.Refusals.{refusal_number, refusal_place}
@@ -44,9 +42,9 @@ abbrev pub refusal_shown : Refusal → List ℕ
 refusal_shown r = ascii " refused" ++ numbers (refusal_number r ∷ refusal_place r ∷ [])
 
 -- one message, as reading answers it
-abbrev pub read_shown : Read → List ℕ → List ℕ
-read_shown (R.Message m) ws = message_shown m ws
-read_shown (R.Refused r) ws = refusal_shown r
+abbrev pub read_shown : Result Message Refusal → List ℕ → List ℕ
+read_shown (Ok m) ws = message_shown m ws
+read_shown (Err r) ws = refusal_shown r
 
 abbrev pub answer_shown : Walked → List ℕ → ℕ → List ℕ
 answer_shown W.End ws pos = []

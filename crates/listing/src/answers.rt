@@ -1,60 +1,50 @@
 // A line for each answer of the walk.
-ghost use Rattle.std.specs.Prelude.{◌≡◌, ◌<◌};
+ghost use Rattle.std.specs.Prelude.{◌≡◌};
 ghost use Rattle.standard.specs.Walk.{walk_of};
 ghost use Rattle.walking.specs.Visits.{next_of};
-ghost use Rattle.ascii_lines.specs.Page.{Wrote};
+ghost use Rattle.ascii_lines.specs.Page.{Puts};
 ghost use Rattle.listing.specs.Lines.{other_shown, refusal_shown, answer_shown, line_of, end_line};
 ghost use Rattle.listing.specs.Listing.{lines_of};
 
 use crate::messages::put_message;
+use ascii_lines::Writer;
 use counts::WordNumber;
-use kinds::refusal::{Refusal, refusal_number, refusal_place};
+use kinds::refusal::Refusal;
 use records::answers::Walked;
 
-fn put_other(out: &mut [u8], at: usize, ump_type: u32, size: WordNumber) -> usize
-    ensures { Wrote at out.old (other_shown ump_type size) result out.new }
+fn put_other(writer: &mut Writer, ump_type: u32, size: WordNumber)
+    ensures { Puts writer.old (other_shown ump_type size) writer.new }
 {
-    let ns = [ump_type as u64, size.0 as u64];
-    ascii_lines::put_named(out, at, b" other", &ns)
+    writer.put_named(b" other", &[ump_type as u64, size.0 as u64]);
 }
 
-pub(crate) fn put_refusal(out: &mut [u8], at: usize, refusal: Refusal) -> usize
-    ensures { Wrote at out.old (refusal_shown refusal) result out.new }
+pub(crate) fn put_refusal(writer: &mut Writer, refusal: Refusal)
+    ensures { Puts writer.old (refusal_shown refusal) writer.new }
 {
-    let ns = [
-        refusal_number(refusal) as u64,
-        refusal_place(refusal) as u64,
-    ];
-    ascii_lines::put_named(out, at, b" refused", &ns)
+    let ns = [refusal.number() as u64, refusal.place() as u64];
+    writer.put_named(b" refused", &ns);
 }
 
 // The rest of a line after its position: what the walk found there.
-fn put_answer(out: &mut [u8], at: usize, words: &[u32], pos: usize, answer: Walked) -> usize
+fn put_answer(writer: &mut Writer, words: &[u32], pos: usize, answer: Walked)
     requires { answer ≡ walk_of words.now pos }
-    ensures { Wrote at out.old (answer_shown answer words.now pos) result out.new }
+    ensures { Puts writer.old (answer_shown answer words.now pos) writer.new }
 {
     match answer {
-        Walked::End => at,
-        Walked::Other {
-            ump_type,
-            size,
-            next: _,
-        } => put_other(out, at, ump_type, size),
-        Walked::Message { message, next } => {
-            let after = next.0;
-            put_message(out, at, message, &words[pos..after])
-        }
-        Walked::Refused { refusal, next: _ } => put_refusal(out, at, refusal),
+        Walked::End => {}
+        Walked::Other { ump_type, size, .. } => put_other(writer, ump_type, size),
+        Walked::Message { message, next } => put_message(writer, message, &words[pos..next.0]),
+        Walked::Refused { refusal, .. } => put_refusal(writer, refusal),
     }
 }
 
-fn put_line(out: &mut [u8], at: usize, words: &[u32], pos: usize, answer: Walked) -> usize
+fn put_line(writer: &mut Writer, words: &[u32], pos: usize, answer: Walked)
     requires { answer ≡ walk_of words.now pos }
-    ensures { Wrote at out.old (line_of answer words.now pos) result out.new }
+    ensures { Puts writer.old (line_of answer words.now pos) writer.new }
 {
-    let p = ascii_lines::put_decimal(out, at, pos as u64);
-    let q = put_answer(out, p, words, pos, answer);
-    ascii_lines::put_byte(out, q, b'\n')
+    writer.put_decimal(pos as u64);
+    put_answer(writer, words, pos, answer);
+    writer.put_byte(b'\n');
 }
 
 // The position after an answer.
@@ -63,35 +53,27 @@ fn next_of(answer: Walked, pos: usize) -> usize
 {
     match answer {
         Walked::End => pos,
-        Walked::Other {
-            ump_type: _,
-            size: _,
-            next,
-        } => next.0,
-        Walked::Message { message: _, next } => next.0,
-        Walked::Refused { refusal: _, next } => next.0,
+        Walked::Other { next, .. } | Walked::Message { next, .. } | Walked::Refused { next, .. } =>
+            next.0,
     }
 }
 
-// All lines but the last. The walk is asked once at each position.
-pub(crate) fn put_lines(out: &mut [u8], at: usize, words: &[u32]) -> usize
-    ensures { Wrote at out.old (lines_of words.now) result out.new }
+// All lines but the last. The walk is asked once at each position, and says how far to the next: so no `for`.
+pub(crate) fn put_lines(writer: &mut Writer, words: &[u32])
+    ensures { Puts writer.old (lines_of words.now) writer.new }
 {
-    let mut p = at;
     let mut pos = 0;
     while pos < words.len() {
         let answer = walking::walk(words, WordNumber(pos));
-        p = put_line(out, p, words, pos, answer);
+        put_line(writer, words, pos, answer);
         pos = next_of(answer, pos);
     }
-    p
 }
 
 // The last line: whole words, leftover bytes.
-pub(crate) fn put_end(out: &mut [u8], at: usize, words: usize, leftover: usize) -> usize
-    ensures { Wrote at out.old (end_line words leftover) result out.new }
+pub(crate) fn put_end(writer: &mut Writer, words: usize, leftover: usize)
+    ensures { Puts writer.old (end_line words leftover) writer.new }
 {
-    let ns = [words as u64, leftover as u64];
-    let p = ascii_lines::put_named(out, at, b"end", &ns);
-    ascii_lines::put_byte(out, p, b'\n')
+    writer.put_named(b"end", &[words as u64, leftover as u64]);
+    writer.put_byte(b'\n');
 }

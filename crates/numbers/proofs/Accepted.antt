@@ -1,4 +1,5 @@
 -- How the code reaches each case of a record from numbers, and the bounds of numbers that fit. Closed by the tests that lead there.
+use Rattle.std.specs.Prelude.{Ok, Err}
 use Prim.Native.Nat.{ℕ, ◌^◌, ◌<◌}
 use mathlib.Core.Path.{◌≡◌, refl}
 use lib.Dec.{ltb}
@@ -12,20 +13,19 @@ use Rattle.slots.specs.Slots.{Slot, fits}
 use Rattle.kinds.specs.declared.kind.Kind.{Kind}
 use Rattle.kinds.specs.declared.refusal.Refusal.TheVariants.{NumberTooLarge}
 use Rattle.kinds.specs.Fields.{same, decided, start, part_of}
-use Rattle.kinds.specs.Layout.{Part, Body, fixed, texts, layout, most_in, has_text, kind_of, parts}
+use Rattle.kinds.specs.Layout.{Part, Body, fixed, texts, layout, most_in, has_text, kind_of}
 use Rattle.table.specs.declared.rows.Row.{Row}
 use Rattle.table.specs.Rows.{RowIs, table_row}
 use Rattle.records.specs.Records.{record_of, lookup, first_part}
 use Rattle.numbers.specs.declared.Numbers.{Numbers}
-use Rattle.numbers.specs.declared.to_record.FromNumbers.TheVariants as G
-use Rattle.numbers.specs.FromNumbers.{Fitting, spread, values_from, is_record, from_kind, other_kind, from_own}
+use Rattle.numbers.specs.FromNumbers.{spread, values_from, is_record, from_kind, other_kind, from_own}
 
 module _ (k : Kind) (c : Numbers) where
-  pub from_refused : is_record k c ≡ false → from_kind k c ≡ G.Refused NumberTooLarge
+  pub from_refused : is_record k c ≡ false → from_kind k c ≡ Err NumberTooLarge
   unfolding from_kind
   from_refused h = rw h
 
-  pub from_whole : is_record k c ≡ true → from_kind k c ≡ G.Message (record_of k c.packets (values_from k c))
+  pub from_whole : is_record k c ≡ true → from_kind k c ≡ Ok (record_of k c.packets (values_from k c))
   unfolding from_kind
   from_whole h = rw h
 
@@ -33,7 +33,7 @@ module _ (k : Kind) (c : Numbers) where
   pub own_status : c.status ≡ (layout k).status → from_own k c ≡ from_kind k c
   own_status s = rw (eq-eqb _ _ s)
 
-  pub other_status : (c.status ≡ (layout k).status → ⊥) → from_own k c ≡ G.Refused (other_kind (kind_of c.status))
+  pub other_status : (c.status ≡ (layout k).status → ⊥) → from_own k c ≡ Err (other_kind (kind_of c.status))
   other_status n = rw (ne_eqb _ _ n)
 
 -- to unfold this is to unfold what computes the values of numbers at a kind
@@ -50,12 +50,6 @@ pub fits_small : (t : List (Slot Part)) (v : Part → ℕ) → fits t v ≡ true
 unfolding fits Small
 fits_small [] v h = tt
 fits_small (s ∷ ss) v h = (ltb-true _ _ (both_left _ _ h), fits_small ss v (both_right _ _ h))
-
-pub small : (k : Kind) {c : Numbers} → Fitting k c → Small (layout k).fields (parts (values_from k c))
-small k h = fits_small _ _ h.is
-
-pub fitting : (k : Kind) {j : Kind} {c : Numbers} → j ≡ k → Fitting j c → Fitting k c
-fitting k e h = rw e at h
 
 -- a kind has text where its row has more than one packet
 pub text_most : (b : Body) → ltb 1 (most_in b) ≡ has_text b

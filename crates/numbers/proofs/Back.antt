@@ -1,4 +1,5 @@
 -- A RECORD COMES BACK FROM ITS NUMBERS, and accepted numbers are those of the record that they make. Closed by computing the table at each kind, and the laws of the codes.
+use Rattle.std.specs.Prelude.{Result, Ok, Err}
 use Prim.Native.Nat.{ℕ, ◌≤◌}
 use mathlib.Core.Path.{◌≡◌, refl, sym, ap, ◌∙◌}
 use mathlib.Core.Bool.{true, false}
@@ -28,7 +29,6 @@ use Rattle.records.specs.Records.{Valued, kind_in, packets_in, record_of, fields
 use Rattle.records.proofs.Records.{record_back, port_named, direction_named}
 use Rattle.numbers.specs.declared.Numbers.{Numbers}
 use Rattle.numbers.specs.declared.Reserved.{Reserved}
-use Rattle.numbers.specs.declared.to_record.FromNumbers.TheVariants as G
 use Rattle.numbers.specs.Numbers.{unused, numbered, as_numbers, nine}
 use Rattle.numbers.specs.FromNumbers.{spread, values_from, choices_named, is_record, from_kind, from_own, trimmed}
 use Rattle.numbers.proofs.Accepted.{from_refused, from_whole, own_status, other_status, Small, fits_small}
@@ -63,12 +63,12 @@ module _ (m : Message) where
   own_record = ap (λ (xs : List Valued). record_of (kind_in m) (packets_in m) (lookup xs)) (spread_back m) ∙ record_back m
 
   -- A RECORD WHOSE NUMBERS FIT THE TABLE COMES BACK
-  pub numbers_back : fits (layout (kind_in m)).fields (parts (values_of m)) ≡ true → from_own (kind_in m) (as_numbers m) ≡ G.Message m
+  pub numbers_back : fits (layout (kind_in m)).fields (parts (values_of m)) ≡ true → from_own (kind_in m) (as_numbers m) ≡ Ok m
   numbers_back h =
-      own_kind ∙ from_whole (kind_in m) (as_numbers m) (both_true _ _ (own_fits ∙ h) own_named) ∙ ap G.Message own_record
+      own_kind ∙ from_whole (kind_in m) (as_numbers m) (both_true _ _ (own_fits ∙ h) own_named) ∙ ap Ok own_record
 
   -- and every other is refused with 12, as where it is written
-  pub numbers_large : fits (layout (kind_in m)).fields (parts (values_of m)) ≡ false → from_own (kind_in m) (as_numbers m) ≡ G.Refused NumberTooLarge
+  pub numbers_large : fits (layout (kind_in m)).fields (parts (values_of m)) ≡ false → from_own (kind_in m) (as_numbers m) ≡ Err NumberTooLarge
   unfolding both
   numbers_large h = own_kind ∙ from_refused (kind_in m) (as_numbers m) (rw (own_fits ∙ h))
 
@@ -84,19 +84,19 @@ record_numbers K.ProductInstanceId c s h p d = rw s
 record_numbers K.FunctionBlockInfo c s h p d = rw (s, ← flag_bit c.first h.0, ← code_hint c.third h.1.1.0, ← code_port c.fourth h.1.1.1.0 p, ← code_direction c.fifth h.1.1.1.1.0 d)
 record_numbers K.FunctionBlockName c s h p d = rw s
 
-message_is : (m n : Message) → G.Message m ≡ G.Message n → m ≡ n
+message_is : (m n : Message) → ◌≡◌ {A = Result Message Refusal} (Ok m) (Ok n) → m ≡ n
 message_is m n e = cc
 
-refused-message : {r : Refusal} {m : Message} → G.Refused r ≡ G.Message m → ⊥
+refused-message : {r : Refusal} {m : Message} → ◌≡◌ {A = Result Message Refusal} (Err r) (Ok m) → ⊥
 refused-message e = never (cc)
 
 -- numbers that are accepted have the status of the kind
-pub accepted_status : (k : Kind) (c : Numbers) (m : Message) → from_own k c ≡ G.Message m → c.status ≡ (layout k).status
+pub accepted_status : (k : Kind) (c : Numbers) (m : Message) → from_own k c ≡ Ok m → c.status ≡ (layout k).status
 accepted_status k c m e =
     split (eqb c.status (layout k).status) (eqb-true _ _) (λ n. absurd (refused-message (sym (other_status k c (eqb-false _ _ n)) ∙ e)))
 
 -- THE NUMBERS OF THE RECORD THAT NUMBERS MAKE are those that were given, but for what the kind has not
-pub accepted-numbers : (k : Kind) (c : Numbers) (m : Message) → from_own k c ≡ G.Message m → as_numbers m ≡ trimmed k c
+pub accepted-numbers : (k : Kind) (c : Numbers) (m : Message) → from_own k c ≡ Ok m → as_numbers m ≡ trimmed k c
 accepted-numbers k c m e = let s = accepted_status k c m e in split (is_record k c) (whole s) (λ h. absurd (refused-message (sym (own_status k c s ∙ from_refused k c h) ∙ e)))
   where
     whole : c.status ≡ (layout k).status → is_record k c ≡ true → as_numbers m ≡ trimmed k c
@@ -106,7 +106,7 @@ accepted-numbers k c m e = let s = accepted_status k c m e in split (is_record k
         rw (← is) (record_numbers k c s (fits_small _ _ (both_left _ _ h)) (eqb-false _ _ named.0) (λ d. true_false (sym named.1 ∙ eq_differ _ _ d)))
 
 -- and the record is of the kind
-pub accepted_kind : (k : Kind) (c : Numbers) (m : Message) → from_own k c ≡ G.Message m → kind_in m ≡ k
+pub accepted_kind : (k : Kind) (c : Numbers) (m : Message) → from_own k c ≡ Ok m → kind_in m ≡ k
 accepted_kind k c m e = one_status _ _ (ap (λ (x : Numbers). x.status) (accepted-numbers k c m e) ∙ accepted_status k c m e)
 
 -- all numbers in a row are the numbers, so that `trimmed` leaves out no others
@@ -142,7 +142,7 @@ trimmed-same K.FunctionBlockInfo c = refl
 trimmed-same K.FunctionBlockName c = refl
 
 -- so what was accepted once is accepted again, as the same record
-pub accepted_again : (k : Kind) (c : Numbers) (m : Message) → from_own k c ≡ G.Message m → from_own k (as_numbers m) ≡ G.Message m
+pub accepted_again : (k : Kind) (c : Numbers) (m : Message) → from_own k c ≡ Ok m → from_own k (as_numbers m) ≡ Ok m
 accepted_again k c m e =
     let s = accepted_status k c m e in
     ap (from_own k) (accepted-numbers k c m e) ∙ own_status k (trimmed k c) s ∙ trimmed-same k c ∙ sym (own_status k c s) ∙ e

@@ -50,8 +50,8 @@ pub whole : (t : List (Slot Part)) (first : ℕ) (xs : List ℕ) → fit_from t 
 whole t first xs = let e : first + 0 ≡ first = omega arith in rw e
 
 -- what the code's test says, by the place that it was given
-pub width_told : {s : Slot Part} {p : Place} {a b : Bool} (v : ℕ) → PlaceIs s p → a ≡ leb (2 ^ p.2) v → a ≡ b → leb (2 ^ s.span) v ≡ b
+pub width_told : {s : Slot Part} {p : Place} {a b : Bool} (v : ℕ) → PlaceIs s p → a ≡ leb (2 ^ p.bits.width) v → a ≡ b → leb (2 ^ s.span) v ≡ b
 width_told v w e t = rw (← w.width) (sym e ∙ t)
 
-pub placed : {s : Slot Part} {p : Place} (v : ℕ) (ws : List ℕ) → PlaceIs s p → put_in p.0 p.1 p.2 v ws ≡ put_slot s v ws
+pub placed : {s : Slot Part} {p : Place} (v : ℕ) (ws : List ℕ) → PlaceIs s p → put_in p.word.0 p.bits.low p.bits.width v ws ≡ put_slot s v ws
 placed v ws w = rw (w.word, w.low, w.width)

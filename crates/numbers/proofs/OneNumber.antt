@@ -1,4 +1,5 @@
 -- THE SETTING OF A FIELD THAT IS ONE NUMBER is that number set among the record's numbers. Closed by computing the table at each name.
+use Rattle.std.specs.Prelude.{Ok, Err}
 use Prim.Native.Nat.{ℕ, ◌^◌}
 use mathlib.Core.Path.{◌≡◌, refl, sym, ap, subst, ◌∙◌}
 use mathlib.Core.Bool.{Bool, true, false, not}
@@ -23,27 +24,14 @@ use Rattle.table.specs.declared.names.NumberName.TheVariants as N
 use Rattle.table.specs.Named.{flag_named, number_named, flag_at, number_at}
 use Rattle.table.specs.Places.{slot_at}
 use Rattle.records.specs.declared.message.Message.{Message}
-use Rattle.records.specs.declared.answers.Answer.TheVariants as A
 use Rattle.records.specs.Records.{kind_in, packets_in, record_of, fields_in, lookup, values_of, first_part}
 use Rattle.records.specs.Settings.{with, is_too_large, edited, set_record}
 use Rattle.records.proofs.Records.{record_back}
 use Rattle.records.proofs.Settings.{lacking, too_large, made}
 use Rattle.numbers.specs.declared.Numbers.{Numbers}
 use Rattle.numbers.specs.Numbers.{as_numbers}
-use Rattle.numbers.specs.FromNumbers.{choices_named, trimmed}
+use Rattle.numbers.specs.FromNumbers.{trimmed}
 use Rattle.numbers.specs.SetOne.{with_number}
-use Rattle.numbers.proofs.Accepted.{computed as valued}
-
--- numbers of any kind but a function block info name no port and no direction
-pub choiceless : (k : Kind) (c : Numbers) → (k ≡ K.FunctionBlockInfo → ⊥) → true ≡ choices_named k c
-unfolding valued
-choiceless K.EndpointDiscovery c o = refl
-choiceless K.EndpointInfo c o = refl
-choiceless K.DeviceIdentity c o = refl
-choiceless K.EndpointName c o = refl
-choiceless K.ProductInstanceId c o = refl
-choiceless K.FunctionBlockInfo c o = absurd (o refl)
-choiceless K.FunctionBlockName c o = refl
 
 -- ---- the setting of one number
 -- the setting's field is slot i of kind k, and x is its number
@@ -57,7 +45,7 @@ unfoldable pub computed : Unit {0}
 unfolding layout those same decided fits part_of record_of fields_in lookup each first_part
 computed = tt
 
-pub flag_one : (f : FlagName) (b : Bool) → OneNumber (flag_at f).0 (flag_at f).1 (bit b) (Setting.flag (flag_named f) b)
+pub flag_one : (f : FlagName) (b : Bool) → OneNumber (flag_at f).kind (flag_at f).slot (bit b) (Setting.flag (flag_named f) b)
 unfolding computed
 flag_one F.RequestEndpointInfo b = record { has = refl; large = refl; put = λ n v. simp bit_flag }
 flag_one F.RequestDeviceIdentity b = record { has = refl; large = refl; put = λ n v. simp bit_flag }
@@ -71,7 +59,7 @@ flag_one F.SupportsReceivingJrTimestamps b = record { has = refl; large = refl; 
 flag_one F.SupportsSendingJrTimestamps b = record { has = refl; large = refl; put = λ n v. simp bit_flag }
 flag_one F.Active b = record { has = refl; large = refl; put = λ n v. simp bit_flag }
 
-pub number_one : (n : NumberName) (x : ℕ) → OneNumber (number_at n).0 (number_at n).1 x (Setting.number (number_named n) x)
+pub number_one : (n : NumberName) (x : ℕ) → OneNumber (number_at n).kind (number_at n).slot x (Setting.number (number_named n) x)
 unfolding computed
 number_one N.DiscoveryVersionMajor x = record { has = refl; large = refl; put = λ n v. refl }
 number_one N.DiscoveryVersionMinor x = record { has = refl; large = refl; put = λ n v. refl }
@@ -97,18 +85,18 @@ trimmed-set K.FunctionBlockName i x c = refl
 
 -- ---- the setting on a record: 13, 12, or the number set
 module _ (k : Kind) (i x : ℕ) (s : Setting) (o : OneNumber k i x s) (m : Message) where
-  pub one_elsewhere : (kind_in m ≡ k → ⊥) → edited m (A.Refused NoSuchField) ≡ set_record s m
+  pub one_elsewhere : (kind_in m ≡ k → ⊥) → edited m (Err NoSuchField) ≡ set_record s m
   one_elsewhere h = lacking s m (elsewhere k (kind_in m) (field_in s) o.has h)
 
   module _ (e : kind_in m ≡ k) where
-    pub one_large : ltb x (2 ^ (slot_at (layout k).fields i).span) ≡ false → edited m (A.Refused NumberTooLarge) ≡ set_record s m
+    pub one_large : ltb x (2 ^ (slot_at (layout k).fields i).span) ≡ false → edited m (Err NumberTooLarge) ≡ set_record s m
     one_large h = too_large s m (rw e o.has) (rw e (o.large ∙ rw (both_alone (ltb x (2 ^ (slot_at (layout k).fields i).span)), h)))
 
     -- the record after the setting
     abbrev one_done : Message
     one_done = record_of (kind_in m) (packets_in m) (with (field_in s) (value_in s) (values_of m))
 
-    pub one_done_lem : ltb x (2 ^ (slot_at (layout k).fields i).span) ≡ true → edited one_done A.Done ≡ set_record s m
+    pub one_done_lem : ltb x (2 ^ (slot_at (layout k).fields i).span) ≡ true → edited one_done (Ok tt) ≡ set_record s m
     one_done_lem h = made s m (rw e o.has) (rw e (o.large ∙ rw (both_alone (ltb x (2 ^ (slot_at (layout k).fields i).span)), h))) refl
 
     pub one_numbers : as_numbers one_done ≡ with_number (length (layout k).fields) i x (as_numbers m)

@@ -1,32 +1,35 @@
--- Numbers held to their limits, one a turn. Closed by taking both lists apart where the turn stands.
-use Prim.Native.Nat.{ℕ, ◌+◌, ◌<◌, ◌≤◌}
+-- Numbers held to their limits, pair by pair. Closed by induction on both lists.
+use Prim.Native.Nat.{ℕ, ◌<◌, ◌≤◌}
 use mathlib.Core.Path.{◌≡◌, refl}
-use mathlib.Core.Bool.{true, false}
+use mathlib.Core.Bool.{Bool, true, false, ◌&&◌}
 use mathlib.Core.List.{List, [], ◌∷◌}
-use native.Mathlib.Numerals.{add-one}
-use lib.ListN.{length, get_or, take, drop, drop_of_length-le}
-use lib.Seq.{drop-cons}
-use borrow.Author.Tests.{lt-ltb, le-ltb}
-use Rattle.laws.specs.Pick.{both}
+use native.Mathlib.Omega.{arith}
+use lib.Dec.{ltb}
+use lib.ListN.{length, take}
+use Rattle.std.specs.List.{list_all, zip}
+use Rattle.laws.specs.Pick.{pick, both}
+use Rattle.laws.proofs.Pick.{both_false}
 use Rattle.numbers.specs.FromNumbers.{within}
 
-module _ (ns ls : List ℕ) (i : ℕ) where
-  pub within_done : length ls ≤ i → true ≡ within (drop i ns) (drop i ls)
-  unfolding within
-  within_done h = rw (drop_of_length-le ls h)
+abbrev pub below_limit : ℕ × ℕ → Bool
+below_limit p = ltb p.0 p.1
 
-  module _ (l : i < length ls) where
-    pub within_short : length ns ≤ i → false ≡ within (drop i ns) (drop i ls)
-    unfolding within
-    within_short h = rw (drop-cons ls i 0 l, drop_of_length-le ns h)
+pub within_pairs : (ns ls : List ℕ) → length ls ≤ length ns → list_all below_limit (zip ns ls) ≡ within ns ls
+unfolding within both
+within_pairs [] [] h = refl
+within_pairs (n ∷ ns) [] h = refl
+within_pairs [] (l ∷ ls) h = absurd (omega arith)
+within_pairs (n ∷ ns) (l ∷ ls) h = rw (within_pairs ns ls (omega arith)) (go (ltb n l))
+  where
+    go : (b : Bool) → (b && within ns ls) ≡ pick b (within ns ls) false
+    go true = refl
+    go false = refl
 
-    pub within_bad : i < length ns → get_or ls i 0 ≤ get_or ns i 0 → false ≡ within (drop i ns) (drop i ls)
-    unfolding within both
-    within_bad h b = rw (drop-cons ns i 0 h, drop-cons ls i 0 l, le-ltb (get_or ns i 0) (get_or ls i 0) b)
-
-    pub within_good : i < length ns → get_or ns i 0 < get_or ls i 0 → within (drop (i + 1) ns) (drop (i + 1) ls) ≡ within (drop i ns) (drop i ls)
-    unfolding within both
-    within_good h b = rw (drop-cons ns i 0 h, drop-cons ls i 0 l, lt-ltb (get_or ns i 0) (get_or ls i 0) b, add-one)
+pub within_short : (ns ls : List ℕ) → length ns < length ls → within ns ls ≡ false
+unfolding within both
+within_short ns [] h = absurd (omega arith)
+within_short [] (l ∷ ls) h = refl
+within_short (n ∷ ns) (l ∷ ls) h = rw (within_short ns ls (omega arith)) (both_false (ltb n l))
 
 -- as many numbers as there are limits are looked at
 pub within_first : (ns ls : List ℕ) → within (take (length ls) ns) ls ≡ within ns ls

@@ -1,11 +1,9 @@
 -- A RECORD FROM ITS NUMBERS: what was given may be no record, and is then refused.
-use Rattle.std.specs.Prelude.{ℕ, ◌/◌, ◌%◌, ◌≡◌, Bool, true, false, List, [], ◌∷◌, ◌++◌, length, get_or, take, drop, ltb, eqb}
+use Rattle.std.specs.Prelude.{ℕ, ◌/◌, ◌%◌, ◌≡◌, Bool, true, false, List, [], ◌∷◌, ◌++◌, length, get_or, take, drop, ltb, eqb, Option, Some, None, Result, Ok, Err}
 use Rattle.laws.specs.Pick.{pick, both, differ}
 use Rattle.laws.specs.Lists.{each}
 use Rattle.slots.specs.Slots.{fits}
 use Rattle.kinds.specs.declared.kind.Kind.{Kind}
-use Rattle.kinds.specs.declared.kind.Known.{Known}
-use Rattle.kinds.specs.declared.kind.Known.TheVariants.{Is, Unknown}
 use Rattle.kinds.specs.declared.refusal.Refusal.{Refusal}
 use Rattle.kinds.specs.declared.refusal.Refusal.TheVariants.{UnknownStatus, NumberTooLarge, NoSuchField}
 use Rattle.kinds.specs.Choices.{no_port, no_direction}
@@ -14,9 +12,8 @@ use Rattle.kinds.specs.Layout.{layout, kind_of, has_text, parts}
 use Rattle.records.specs.Answers.{Said, accepted, refused, said_message}
 use Rattle.records.specs.Records.{Valued, lookup, in_order, record_of}
 use Rattle.numbers.specs.declared.Numbers.{Numbers}
-use Rattle.numbers.specs.declared.to_record.FromNumbers.{FromNumbers}
-use Rattle.numbers.specs.declared.to_record.FromNumbers.TheVariants as G
 use Rattle.numbers.specs.Numbers.{numbered, nine}
+use Rattle.records.specs.declared.message.Message.{Message}
 
 -- the fields in order take their numbers, each as many as its starting value has
 unfoldable pub spread : List Field → List ℕ → List Valued
@@ -41,30 +38,30 @@ abbrev pub is_record : Kind → Numbers → Bool
 is_record k c = both (fits (layout k).fields (parts (values_from k c))) (choices_named k c)
 
 -- refusal 12 for numbers that are no record; otherwise the record
-unfoldable pub from_kind : Kind → Numbers → FromNumbers
-from_kind k c = pick (is_record k c) (G.Message (record_of k c.packets (values_from k c))) (G.Refused NumberTooLarge)
+unfoldable pub from_kind : Kind → Numbers → Result Message Refusal
+from_kind k c = pick (is_record k c) (Ok (record_of k c.packets (values_from k c))) (Err NumberTooLarge)
 
 -- numbers of another kind than the one wanted: refusal 5 if no kind has their status, otherwise 13
-abbrev pub other_kind : Known → Refusal
-other_kind Unknown = UnknownStatus
-other_kind (Is j) = NoSuchField
+abbrev pub other_kind : Option Kind → Refusal
+other_kind None = UnknownStatus
+other_kind (Some j) = NoSuchField
 
 -- A RECORD OF A KIND from its numbers: refusals 5, 13, 12
-abbrev pub from_own : Kind → Numbers → FromNumbers
-from_own k c = pick (eqb c.status (layout k).status) (from_kind k c) (G.Refused (other_kind (kind_of c.status)))
+abbrev pub from_own : Kind → Numbers → Result Message Refusal
+from_own k c = pick (eqb c.status (layout k).status) (from_kind k c) (Err (other_kind (kind_of c.status)))
 
-abbrev pub fixed_known : Known → Numbers → FromNumbers
-fixed_known Unknown c = G.Refused UnknownStatus
-fixed_known (Is k) c = pick (has_text (layout k).body) (G.Refused NoSuchField) (from_kind k c)
+abbrev pub fixed_known : Option Kind → Numbers → Result Message Refusal
+fixed_known None c = Err UnknownStatus
+fixed_known (Some k) c = pick (has_text (layout k).body) (Err NoSuchField) (from_kind k c)
 
 -- A RECORD OF ANY FIXED KIND from its numbers: refusals 5, 13 for a kind with text, 12
-abbrev pub from_fixed : Numbers → FromNumbers
+abbrev pub from_fixed : Numbers → Result Message Refusal
 from_fixed c = fixed_known (kind_of c.status) c
 
 -- the same in document 01's numbers: the message, or the refusal
-abbrev pub said_from : FromNumbers → Said
-said_from (G.Message m) = accepted (said_message m)
-said_from (G.Refused r) = refused r []
+abbrev pub said_from : Result Message Refusal → Said
+said_from (Ok m) = accepted (said_message m)
+said_from (Err r) = refused r []
 
 -- what is looked at of numbers given for a kind: a fixed kind is one packet, and numbers past the kind's last are as 0
 abbrev pub trimmed : Kind → Numbers → Numbers

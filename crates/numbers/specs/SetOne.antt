@@ -1,17 +1,15 @@
 -- ONE NUMBER OF A RECORD SET among its numbers, for a record of one packet.
-use Rattle.std.specs.Prelude.{ℕ, ltb, eqb}
+use Rattle.std.specs.Prelude.{ℕ, ltb, eqb, Result, Ok, Err}
 use Rattle.laws.specs.Pick.{pick}
-use Rattle.records.specs.declared.answers.Answer.{Answer}
-use Rattle.records.specs.declared.answers.Answer.TheVariants as A
 use Rattle.numbers.specs.declared.Numbers.{Numbers}
-use Rattle.numbers.specs.declared.to_record.FromNumbers.{FromNumbers}
-use Rattle.numbers.specs.declared.to_record.FromNumbers.TheVariants as G
 use Rattle.numbers.specs.Numbers.{unused}
+use Rattle.records.specs.declared.message.Message.{Message}
+use Rattle.kinds.specs.declared.refusal.Refusal.{Refusal}
 
 -- what the numbers give is a record, or why not
-abbrev pub checked : FromNumbers → Answer
-checked (G.Message m) = A.Done
-checked (G.Refused r) = A.Refused r
+abbrev pub checked : Result Message Refusal → Result (Unit {0}) Refusal
+checked (Ok m) = Ok tt
+checked (Err r) = Err r
 
 -- number i after number `at` of `count` is set to x: 0 past the last
 abbrev pub number_now : ℕ → ℕ → ℕ → ℕ → ℕ → ℕ

@@ -3,8 +3,7 @@ ghost use Rattle.std.specs.Prelude.{◌≡◌};
 ghost use Rattle.kinds.specs.Layout.{layout};
 ghost use Rattle.numbers.specs.BySlot.{fit_from, put_from};
 
-use counts::WordNumber;
-use fields::{put_field, too_large};
+use fields::put_field;
 use kinds::kind::Kind;
 use table::places::place_of;
 
@@ -12,13 +11,10 @@ use table::places::place_of;
 pub fn numbers_fit(kind: Kind, first: u8, numbers: &[u32]) -> bool
     ensures { result ≡ fit_from (layout kind).fields first numbers.now }
 {
-    let mut i = 0;
-    while i < numbers.len() {
-        let place = place_of(kind, first as usize + i);
-        if too_large(place.2, numbers[i]) {
+    for (i, &number) in numbers.iter().enumerate() {
+        if place_of(kind, first as usize + i).bits.too_large(number) {
             return false;
         }
-        i += 1;
     }
     true
 }
@@ -27,10 +23,8 @@ pub fn numbers_fit(kind: Kind, first: u8, numbers: &[u32]) -> bool
 pub fn put_numbers(words: &mut [u32], kind: Kind, first: u8, numbers: &[u32])
     ensures { words.new ≡ put_from (layout kind).fields first numbers.now words.old }
 {
-    let mut i = numbers.len();
-    while 0 < i {
-        i -= 1;
+    for i in (0..numbers.len()).rev() {
         let place = place_of(kind, first as usize + i);
-        put_field(words, WordNumber(place.0), place.1, place.2, numbers[i]);
+        put_field(words, place.word, place.bits, numbers[i]);
     }
 }

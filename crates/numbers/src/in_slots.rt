@@ -10,8 +10,11 @@ use crate::by_slot::put_numbers;
 use kinds::kind::Kind;
 use table::rows::row_of;
 
+// The most slots that a kind has.
+const MOST_SLOTS: usize = 11;
+
 // One number a slot.
-fn plain_slots(c: Numbers) -> [u32; 11]
+fn plain_slots(c: Numbers) -> [u32; MOST_SLOTS]
     ensures { result ≡ plain_slots c }
 {
     [
@@ -20,7 +23,7 @@ fn plain_slots(c: Numbers) -> [u32; 11]
 }
 
 // The fourth and the fifth number are pairs, of two slots each.
-fn pair_slots(c: Numbers) -> [u32; 11]
+fn pair_slots(c: Numbers) -> [u32; MOST_SLOTS]
     ensures { result ≡ pair_slots c }
 {
     [
@@ -40,7 +43,7 @@ fn pair_slots(c: Numbers) -> [u32; 11]
 
 // A kind with more slots than numbers has pairs. 0 past the kind's last slot.
 #[tactic(auto, unfolding(crate::specs::FromNumbers::slot_numbers))]
-fn slot_numbers(kind: Kind, c: Numbers) -> [u32; 11]
+fn slot_numbers(kind: Kind, c: Numbers) -> [u32; MOST_SLOTS]
     ensures { result ≡ slot_numbers kind c }
 {
     let row = row_of(kind);
@@ -54,17 +57,11 @@ fn slot_numbers(kind: Kind, c: Numbers) -> [u32; 11]
 fn are_within(numbers: &[u32], limits: &[u32]) -> bool
     ensures { result ≡ within numbers.now limits.now }
 {
-    let mut i = 0;
-    while i < limits.len() {
-        if numbers.len() <= i {
-            return false;
-        }
-        if limits[i] <= numbers[i] {
-            return false;
-        }
-        i += 1;
-    }
-    true
+    limits.len() <= numbers.len()
+        && numbers
+            .iter()
+            .zip(limits)
+            .all(|(number, limit)| number < limit)
 }
 
 // Whether each number is at most its field's largest. The limits are constants, so that the compiler takes the loop apart.

@@ -1,4 +1,5 @@
 // A record as numbers and back: what crosses to C, and what the listing and writing go over.
+// A kind goes beside the numbers of a record, since numbers from C may be of another kind or of none.
 #![tactic(auto)]
 
 pub mod by_slot;

@@ -1,11 +1,12 @@
 // The numbers of a record, a function for each fixed kind.
+#![tactic(auto, unfolding(crate::proofs::AsNumbers::of_record), using(bit_ops::proofs::Parts::bit_byte))]
+
 ghost use Rattle.std.specs.Prelude.{◌≡◌, get_or};
 ghost use Rattle.kinds.specs.Layout.{layout};
 ghost use Rattle.records.specs.declared.message.Message.TheVariants as M;
 ghost use Rattle.numbers.specs.Numbers.{numbered, as_numbers, one_number, no_numbers};
 
 use crate::{Numbers, Reserved};
-use kinds::choices::{direction_code, hint_code, port_code};
 use kinds::kind::Kind;
 use records::device_identity::DeviceIdentity;
 use records::endpoint_discovery::EndpointDiscovery;
@@ -18,10 +19,7 @@ use table::rows::row_of;
 fn nth(numbers: &[u32], i: usize) -> u32
     ensures { result ≡ get_or numbers.now i 0 }
 {
-    if i < numbers.len() {
-        return numbers[i];
-    }
-    0
+    numbers.get(i).copied().unwrap_or(0)
 }
 
 // The numbers of a kind, which gives the status; 0 past the last.
@@ -96,15 +94,12 @@ pub fn of_device_identity(e: DeviceIdentity) -> Numbers
 pub fn of_function_block_info(e: FunctionBlockInfo) -> Numbers
     ensures { result ≡ as_numbers (M.FunctionBlockInfo e) }
 {
-    let hint = e.ui_hint;
-    let port = e.midi1_port;
-    let direction = e.direction;
     let ns = [
         e.active as u32,
         e.function_block_number as u32,
-        hint_code(hint),
-        port_code(port),
-        direction_code(direction),
+        u32::from(e.ui_hint),
+        u32::from(e.midi1_port),
+        u32::from(e.direction),
         e.first_group as u32,
         e.number_of_groups_spanned as u32,
         e.midi_ci_version as u32,

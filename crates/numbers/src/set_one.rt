@@ -7,21 +7,21 @@ use crate::to_record::{is_record, other_kind};
 use crate::{Numbers, Reserved};
 use kinds::kind::Kind;
 use kinds::refusal::Refusal;
-use records::answers::Answer;
 use table::rows::row_of;
 
 // Whether the numbers are a record of this kind, or why not: refusals 5, 13, 12.
-pub fn check_record(kind: Kind, c: Numbers) -> Answer
+#[tactic(auto, unfolding(crate::specs::FromNumbers::from_kind))]
+pub fn check_record(kind: Kind, c: Numbers) -> Result<(), Refusal>
     ensures { result ≡ checked (from_own kind c) }
 {
     let row = row_of(kind);
     if c.status != row.status {
-        return Answer::Refused(other_kind(c.status));
+        return Err(other_kind(c.status));
     }
     if is_record(kind, c) {
-        return Answer::Done;
+        return Ok(());
     }
-    Answer::Refused(Refusal::NumberTooLarge)
+    Err(Refusal::NumberTooLarge)
 }
 
 // Number i after number `at` of `count` is set to x: 0 past the last.
@@ -37,6 +37,7 @@ fn number_now(count: usize, at: usize, x: u32, i: usize, old: u32) -> u32
     0
 }
 
+// One by one, since the nine numbers are fields by name for C.
 pub fn with_number(c: Numbers, count: usize, at: usize, x: u32) -> Numbers
     ensures { result ≡ with_number count at x c }
 {

@@ -1,4 +1,6 @@
 // A record from its numbers, a function for each fixed kind.
+#![tactic(auto, unfolding(crate::proofs::Accepted::computed))]
+
 ghost use Rattle.std.specs.Prelude.{◌≡◌};
 ghost use Rattle.kinds.specs.declared.kind.Kind.TheVariants as K;
 ghost use Rattle.kinds.specs.Layout.{kind_of};
@@ -9,7 +11,7 @@ use crate::Numbers;
 use crate::in_slots::numbers_in_range;
 use counts::PacketNumber;
 use kinds::choices::{direction_of_valid_code, hint_of_valid_code, port_of_valid_code};
-use kinds::kind::{Kind, Known};
+use kinds::kind::Kind;
 use kinds::refusal::Refusal;
 use records::device_identity::{DeviceIdentity, Manufacturer, SoftwareVersion};
 use records::endpoint_discovery::EndpointDiscovery;
@@ -18,12 +20,7 @@ use records::function_block_info::FunctionBlockInfo;
 use records::message::Message;
 use table::rows::{kind_of, row_of};
 
-#[derive(Clone, Copy)]
-pub enum FromNumbers {
-    Message(Message),
-    Refused(Refusal),
-}
-
+// Each of these takes that its own kind's numbers fit: a type that says it would be one struct a kind.
 fn endpoint_discovery(c: Numbers) -> Message
     requires { Fitting K.EndpointDiscovery c }
     ensures { result ≡ record_of K.EndpointDiscovery c.packets (values_from K.EndpointDiscovery c) }
@@ -119,13 +116,10 @@ fn fitting_record(kind: Kind, c: Numbers) -> Message
 fn choices_named(kind: Kind, c: Numbers) -> bool
     ensures { result ≡ choices_named kind c }
 {
-    let Kind::FunctionBlockInfo = kind else {
-        return true;
-    };
-    if c.fourth == 3 {
-        return false;
+    match kind {
+        Kind::FunctionBlockInfo => c.fourth != 3 && c.fifth != 0,
+        _ => true,
     }
-    c.fifth != 0
 }
 
 // Whether numbers of a kind's status are a record: each at most its field's largest, and choices that have a name.
@@ -133,20 +127,18 @@ fn choices_named(kind: Kind, c: Numbers) -> bool
 pub(crate) fn is_record(kind: Kind, c: Numbers) -> bool
     ensures { result ≡ is_record kind c }
 {
-    if numbers_in_range(kind, c) {
-        return choices_named(kind, c);
-    }
-    false
+    numbers_in_range(kind, c) && choices_named(kind, c)
 }
 
 // Numbers of a kind's status.
-fn own_record(kind: Kind, c: Numbers) -> FromNumbers
+#[tactic(auto, unfolding(crate::specs::FromNumbers::from_kind, laws::specs::Pick::both))]
+fn own_record(kind: Kind, c: Numbers) -> Result<Message, Refusal>
     ensures { result ≡ from_kind kind c }
 {
     if is_record(kind, c) {
-        return FromNumbers::Message(fitting_record(kind, c));
+        return Ok(fitting_record(kind, c));
     }
-    FromNumbers::Refused(Refusal::NumberTooLarge)
+    Err(Refusal::NumberTooLarge)
 }
 
 // Why numbers of another status than the one wanted are refused.
@@ -154,34 +146,30 @@ pub(crate) fn other_kind(status: u32) -> Refusal
     ensures { result ≡ other_kind (kind_of status) }
 {
     match kind_of(status) {
-        Known::Is(_) => Refusal::NoSuchField,
-        Known::Unknown => Refusal::UnknownStatus,
+        Some(_) => Refusal::NoSuchField,
+        None => Refusal::UnknownStatus,
     }
 }
 
 // A record of one kind: refusals 5, 13, 12.
-pub fn record_of(kind: Kind, c: Numbers) -> FromNumbers
+pub fn record_of(kind: Kind, c: Numbers) -> Result<Message, Refusal>
     ensures { result ≡ from_own kind c }
 {
     let row = row_of(kind);
     if c.status != row.status {
-        return FromNumbers::Refused(other_kind(c.status));
+        return Err(other_kind(c.status));
     }
     own_record(kind, c)
 }
 
 // A record of any fixed kind: refusals 5, 13 for a kind with text, 12.
-pub fn fixed_record(c: Numbers) -> FromNumbers
+pub fn fixed_record(c: Numbers) -> Result<Message, Refusal>
     ensures { result ≡ from_fixed c }
 {
-    match kind_of(c.status) {
-        Known::Is(kind) => {
-            let row = row_of(kind);
-            if 1 < row.most_packets {
-                return FromNumbers::Refused(Refusal::NoSuchField);
-            }
-            own_record(kind, c)
-        }
-        Known::Unknown => FromNumbers::Refused(Refusal::UnknownStatus),
+    let kind = kind_of(c.status).ok_or(Refusal::UnknownStatus)?;
+    let row = row_of(kind);
+    if 1 < row.most_packets {
+        return Err(Refusal::NoSuchField);
     }
+    own_record(kind, c)
 }

@@ -1,4 +1,5 @@
 -- The buffer of good values is a message of their record, and a setting on it gives the buffer of the changed values. From the laws of fixed and text kinds.
+use Rattle.std.specs.Prelude.{Result, Ok, Err}
 use Prim.Native.Nat.{ℕ, ◌+◌, ◌*◌, ◌≤◌}
 use mathlib.Core.Path.{◌≡◌, refl, sym, ap, ◌∙◌, subst}
 use mathlib.Core.List.{List}
@@ -15,9 +16,6 @@ use Rattle.kinds.specs.declared.kind.Kind.{Kind}
 use Rattle.kinds.specs.Fields.{Field, Setting, field_in, value_in, same, start}
 use Rattle.kinds.specs.Layout.{Body, fixed, texts, layout, capacity_of, most_in, parts}
 use Rattle.kinds.proofs.Rows.{row_right, start_fits}
-use Rattle.records.specs.declared.answers.Answer.{Answer}
-use Rattle.records.specs.declared.answers.Answer.TheVariants as A
-use Rattle.records.specs.declared.answers.Read.TheVariants as R
 use Rattle.records.specs.declared.answers.Walked.TheVariants as W
 use Rattle.records.specs.Records.{kind_in, packets_in}
 use Rattle.records.proofs.Records.{record_kind, record_packets}
@@ -36,6 +34,7 @@ use Rattle.standard.proofs.Accepted.{accepted_facts}
 use Rattle.promises.proofs.Laid.{Laid, laid_formed}
 use Rattle.promises.proofs.Changed.{good_with}
 use Rattle.promises.proofs.Bodies.{in_length, in_fresh, in_laid, in_acted}
+use Rattle.kinds.specs.declared.refusal.Refusal.{Refusal}
 
 module _ (k : Kind) (ws : List ℕ) (l : 4 ≤ length ws) where
   -- A FRESH MESSAGE is the buffer of the starting values
@@ -60,7 +59,7 @@ module _ (k : Kind) (ws : List ℕ) (l : 4 ≤ length ws) where
     pub encode_formed : Formed (record_for k v) (nonzero (text_given k v)) (words_for k ws v)
     encode_formed = laid_formed k (packets_of ws) v (encode k ws v) g laid
 
-    pub encode_read : read_of (words_for k ws v) ≡ R.Message (record_for k v)
+    pub encode_read : read_of (words_for k ws v) ≡ Ok (record_for k v)
     encode_read = formed_read (record_for k v) (nonzero (text_given k v)) (words_for k ws v) encode_formed
 
     packets : packets_in (record_for k v) ≡ packets_needed k v
@@ -91,19 +90,19 @@ module _ (k : Kind) (ws : List ℕ) (l : 4 ≤ length ws) where
     whole : packets_of (encode k ws v) ≡ packets_of ws
     whole = rw (encode-length v)
 
-    after_law : (s : Setting) (a : Answer) → answer_to (layout k) (packets_of ws) s ≡ a → after_answer a (layout k) (packets_needed k v) s (encode k ws v) ≡ encode k ws (λ f. pick (both (is_done a) (same f (field_in s))) (value_in s) (v f))
+    after_law : (s : Setting) (a : (Result (Unit {0}) Refusal)) → answer_to (layout k) (packets_of ws) s ≡ a → after_answer a (layout k) (packets_needed k v) s (encode k ws v) ≡ encode k ws (λ f. pick (both (is_done a) (same f (field_in s))) (value_in s) (v f))
     unfolding encode both
-    after_law s A.Done e = in_acted (layout k) ws l v (layout k).body (row_right k) g s (accepted_facts (layout k) (packets_of ws) s e) (values_hold k _)
-    after_law s (A.Refused r) e = refl
+    after_law s (Ok tt) e = in_acted (layout k) ws l v (layout k).body (row_right k) g s (accepted_facts (layout k) (packets_of ws) s e) (values_hold k _)
+    after_law s (Err r) e = refl
 
     pub set_law : (s : Setting) → set_on s (encode k ws v) ≡ outcome (answer_to (layout k) (packets_of ws) s) (encode k ws (changed k (packets_of ws) s v))
     unfolding set_on set_message
     set_law s = rw (encode_walk, packets, kind, whole, after_law s (answer_to (layout k) (packets_of ws) s) refl)
 
-    good_by : (s : Setting) (a : Answer) → answer_to (layout k) (packets_of ws) s ≡ a → GoodValues k (packets_of ws) (λ f. pick (both (is_done a) (same f (field_in s))) (value_in s) (v f))
+    good_by : (s : Setting) (a : (Result (Unit {0}) Refusal)) → answer_to (layout k) (packets_of ws) s ≡ a → GoodValues k (packets_of ws) (λ f. pick (both (is_done a) (same f (field_in s))) (value_in s) (v f))
     unfolding both
-    good_by s A.Done e = good_with (layout k).body (layout k).fields (packets_of ws) v s g (accepted_facts (layout k) (packets_of ws) s e)
-    good_by s (A.Refused r) e = g
+    good_by s (Ok tt) e = good_with (layout k).body (layout k).fields (packets_of ws) v s g (accepted_facts (layout k) (packets_of ws) s e)
+    good_by s (Err r) e = g
 
     -- and the changed values are good
     pub good_kept : (s : Setting) → GoodValues k (packets_of ws) (changed k (packets_of ws) s v)

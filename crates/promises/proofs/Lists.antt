@@ -1,4 +1,5 @@
 -- Lists of settings, given the law of one setting; and a field's last accepted value. By induction on the list.
+use Rattle.std.specs.Prelude.{Result}
 use Prim.Native.Nat.{ℕ}
 use mathlib.Core.Path.{◌≡◌, refl, sym, ap, ◌∙◌}
 use mathlib.Core.Bool.{Bool, true, false}
@@ -9,11 +10,11 @@ use Rattle.laws.proofs.Pick.{both_false}
 use Rattle.kinds.specs.declared.kind.Kind.{Kind}
 use Rattle.kinds.specs.Fields.{Field, Setting, field_in, value_in, same}
 use Rattle.kinds.specs.Layout.{layout}
-use Rattle.records.specs.declared.answers.Answer.{Answer}
 use Rattle.standard.specs.Heads.{packets_of}
 use Rattle.standard.specs.Words.{Outcome, outcome, set_on, answer_to, encode}
 use Rattle.standard.specs.Lists.{set_all, SettingAnswer, with_answer, answer_all, is_done, last_accepted, only_field}
 use Rattle.promises.specs.Values.{changed, field_answered}
+use Rattle.kinds.specs.declared.refusal.Refusal.{Refusal}
 
 -- ---- a field's last value depends on its own settings only
 module _ (k : Kind) (room : ℕ) (f : Field) where
@@ -30,7 +31,7 @@ module _ (k : Kind) (room : ℕ) (f : Field) where
   last_mixed v ss ts e = sym (last_only v ss) ∙ ap (last_accepted k room f v) e ∙ last_only v ts
 
 -- ---- a field's answers depend on its own settings only
-pub only_answered : (h : Setting → Answer) (f : Field) (ss : List Setting) → only_field field_answered f (map (λ s. with_answer s (h s)) ss) ≡ map (λ s. with_answer s (h s)) (only_field field_in f ss)
+pub only_answered : (h : Setting → (Result (Unit {0}) Refusal)) (f : Field) (ss : List Setting) → only_field field_answered f (map (λ s. with_answer s (h s)) ss) ≡ map (λ s. with_answer s (h s)) (only_field field_in f ss)
 unfolding only_field map
 only_answered h f [] = refl
 only_answered h f (s ∷ ss) = go (same f (field_in s)) (only_answered h f ss)

@@ -1,4 +1,5 @@
 -- DEMAND 3: the result and the answers of a list of settings on a fresh message, and that only the order within each field matters. From the law of one setting.
+use Rattle.std.specs.Prelude.{Ok}
 use Prim.Native.Nat.{ℕ, ◌*◌, ◌≤◌}
 use mathlib.Core.Path.{◌≡◌, sym, ap, ◌∙◌, fun_ext}
 use mathlib.Core.List.{List}
@@ -8,7 +9,6 @@ use Rattle.counts.specs.Counts.{word}
 use Rattle.kinds.specs.declared.kind.Kind.{Kind}
 use Rattle.kinds.specs.Fields.{Field, Setting, field_in, start}
 use Rattle.kinds.specs.Layout.{layout}
-use Rattle.records.specs.declared.answers.Read.TheVariants as R
 use Rattle.records.specs.declared.answers.Walked.TheVariants as W
 use Rattle.standard.specs.Heads.{packets_of}
 use Rattle.standard.specs.Reading.{read_of, text_at}
@@ -41,7 +41,7 @@ module _ (k : Kind) (ws : List ℕ) (l : 4 ≤ length ws) where
   settings_good ss = all_good k ws (GoodValues k (packets_of ws)) (set_law k ws l) (good_kept k ws l) ss start (start_good k ws l)
 
   -- it is read as their record
-  pub settings_read : (ss : List Setting) → read_of (take (packets_needed k (last_values k (packets_of ws) ss) * 4) (set_all ss (fresh k ws))) ≡ R.Message (record_for k (last_values k (packets_of ws) ss))
+  pub settings_read : (ss : List Setting) → read_of (take (packets_needed k (last_values k (packets_of ws) ss) * 4) (set_all ss (fresh k ws))) ≡ Ok (record_for k (last_values k (packets_of ws) ss))
   settings_read ss = rw (settings_leave ss) (encode_read k ws l (last_values k (packets_of ws) ss) (settings_good ss))
 
   -- its text is the last accepted one without zeros

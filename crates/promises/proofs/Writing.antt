@@ -1,4 +1,5 @@
 -- Writing a record, and reading it back. From the buffer of good values: a record's values are good if they fit.
+use Rattle.std.specs.Prelude.{Ok}
 use Prim.Native.Nat.{ℕ, ◌*◌, ◌≤◌}
 use mathlib.Core.Path.{◌≡◌, refl, sym, ap, ◌∙◌}
 use mathlib.Core.Bool.{Bool, true, false, not}
@@ -17,8 +18,6 @@ use Rattle.kinds.specs.Fields.{Field, same}
 use Rattle.kinds.specs.Layout.{Body, fixed, texts, layout, most_in, parts, held, values_in, has_text}
 use Rattle.records.specs.declared.message.Message.{Message}
 use Rattle.records.specs.declared.message.Message.TheVariants as M
-use Rattle.records.specs.declared.answers.Answer.TheVariants as A
-use Rattle.records.specs.declared.answers.Read.TheVariants as R
 use Rattle.records.specs.Records.{kind_in, packets_in, record_of, values_of}
 use Rattle.records.proofs.Records.{record_back, refused_done, port_named, direction_named}
 use Rattle.standard.specs.Heads.{packets_of}
@@ -60,7 +59,7 @@ module _ (m : Message) (ws : List ℕ) (fixed_kind : has_text (layout (kind_in m
         direction = direction_named m;
       }
 
-  write_is : write_on m ws ≡ outcome A.Done (encode (kind_in m) ws (values_of m))
+  write_is : write_on m ws ≡ outcome (Ok tt) (encode (kind_in m) ws (values_of m))
   unfolding write_on
   write_is =
       sym
@@ -76,14 +75,14 @@ module _ (m : Message) (ws : List ℕ) (fixed_kind : has_text (layout (kind_in m
   is_back : record_for (kind_in m) (values_of m) ≡ m
   is_back = ap (λ (n : ℕ). record_of (kind_in m) n (values_of m)) ((no_text (layout (kind_in m)).body (values_of m) fixed_kind).1 ∙ sym (one_packet m fixed_kind)) ∙ record_back m
 
-  write_read : read_of (take 4 (write_on m ws).words) ≡ R.Message m
+  write_read : read_of (take 4 (write_on m ws).words) ≡ Ok m
   write_read =
       let n : packets_needed (kind_in m) (values_of m) ≡ 1 = (no_text (layout (kind_in m)).body (values_of m) fixed_kind).1 in
       rw write_is
-      (ap (λ (c : ℕ). read_of (take (c * 4) (encode (kind_in m) ws (values_of m)))) (sym n) ∙ encode_read (kind_in m) ws l (values_of m) good ∙ ap R.Message is_back)
+      (ap (λ (c : ℕ). read_of (take (c * 4) (encode (kind_in m) ws (values_of m)))) (sym n) ∙ encode_read (kind_in m) ws l (values_of m) good ∙ ap Ok is_back)
 
 -- ---- when it is accepted
-passed_done : (t : Bool) (x y : Outcome) → (x.answer ≡ A.Done → ⊥) → (pick t x y).answer ≡ A.Done → (t ≡ false) × (y.answer ≡ A.Done)
+passed_done : (t : Bool) (x y : Outcome) → (x.answer ≡ Ok tt → ⊥) → (pick t x y).answer ≡ Ok tt → (t ≡ false) × (y.answer ≡ Ok tt)
 passed_done true x y n e = absurd (n e)
 passed_done false x y n e = (refl, e)
 
@@ -92,7 +91,7 @@ record Writes (m : Message) (ws : List ℕ) : Type 0 where
   small : fits (layout (kind_in m)).fields (parts (values_of m)) ≡ true
   room : 4 ≤ length ws
 
-write_done : (m : Message) (ws : List ℕ) → (write_on m ws).answer ≡ A.Done → Writes m ws
+write_done : (m : Message) (ws : List ℕ) → (write_on m ws).answer ≡ Ok tt → Writes m ws
 unfolding write_on
 write_done m ws e =
     let a = passed_done (has_text (layout (kind_in m)).body) (unchanged NoSuchField ws) _ refused_done e in
@@ -102,11 +101,11 @@ write_done m ws e =
     record { fixed_kind = a.0; small = not-false _ b.0; room = omega arith }
 
 -- A RECORD THAT WAS WRITTEN is read back
-pub written_read : (m : Message) (ws : List ℕ) → (write_on m ws).answer ≡ A.Done → read_of (take 4 (write_on m ws).words) ≡ R.Message m
+pub written_read : (m : Message) (ws : List ℕ) → (write_on m ws).answer ≡ Ok tt → read_of (take 4 (write_on m ws).words) ≡ Ok m
 written_read m ws e = let w = write_done m ws e in write_read m ws w.fixed_kind w.small w.room
 
 -- ---- A RECORD THAT WAS READ can be written, with every field unchanged
-module _ (as_read ws : List ℕ) (m : Message) (e : read_of as_read ≡ R.Message m) where
+module _ (as_read ws : List ℕ) (m : Message) (e : read_of as_read ≡ Ok m) where
   held_there : reads (layout (kind_in m)).fields (parts (values_of m)) as_read
   held_there = let f = read_formed as_read m e in f.fields 0 f.some
 
@@ -114,7 +113,7 @@ module _ (as_read ws : List ℕ) (m : Message) (e : read_of as_read ≡ R.Messag
   read_fits = reads-fits _ _ as_read held_there
 
   module _ (fixed_kind : has_text (layout (kind_in m)).body ≡ false) (l : 4 ≤ length ws) where
-    pub read_written : write_on m ws ≡ outcome A.Done (encode (kind_in m) ws (values_of m))
+    pub read_written : write_on m ws ≡ outcome (Ok tt) (encode (kind_in m) ws (values_of m))
     read_written = write_is m ws fixed_kind read_fits l
 
     pub written_same : (f : Field) → values_at (kind_in m) (write_on m ws).words f ≡ values_at (kind_in m) as_read f

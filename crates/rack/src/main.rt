@@ -8,119 +8,73 @@ mod run;
 mod tally;
 mod values;
 
+use kinds::kind::Kind;
 use planted::plant_each;
 use run::{Plan, run};
 use std::io;
-use tally::add;
-use values::fill_pool;
-
-// Settings of any field, one in eight of another kind.
-fn mixed(kind: usize) -> Plan {
-    Plan {
-        kind,
-        only: 9,
-        first: 0,
-        count: 10000,
-    }
-}
+use tally::Tally;
+use values::{Pool, made_pool};
 
 // A run in the first n words of a buffer, at most 263: sixty-five packets and a tail of three words.
-fn in_words(n: usize, plan: Plan, pool: &[u8], tally: &mut [u64]) {
+fn in_words(n: usize, plan: Plan, pool: &Pool) -> Tally {
     let mut words = [0u32; 263];
     let mut again = [0u32; 263];
-    if n <= 263 {
-        run(plan, &mut words[0..n], &mut again[0..n], pool, tally);
+    let n = n.min(263);
+    run(plan, pool, &mut words[..n], &mut again[..n])
+}
+
+// Settings of any field, one in eight of another kind, in buffers of one to sixty-five packets, most with a tail.
+fn mixed(kind: Kind, pool: &Pool) -> Tally {
+    let plan = Plan {
+        kind,
+        only: None,
+        first: 0,
+        count: 10000,
+    };
+    let mut tally = Tally::default();
+    for n in [4, 7, 13, 34, 263] {
+        tally = tally.and(in_words(n, plan, pool));
     }
+    tally
 }
 
 // A year of one rename a minute, on block name 5.
-fn renames() -> Plan {
-    Plan {
-        kind: 6,
-        only: 1,
+fn renames(pool: &Pool) -> Tally {
+    let plan = Plan {
+        kind: Kind::FunctionBlockName,
+        only: Some(1),
         first: 5,
         count: 525600,
+    };
+    in_words(35, plan, pool)
+}
+
+// The line of each kind, and the tally of all.
+fn print_mixed(rt: &impl Print, pool: &Pool) -> io::Result<Tally> {
+    let mut all = Tally::default();
+    for (name, kind) in [
+        ("endpoint-discovery", Kind::EndpointDiscovery),
+        ("endpoint-info", Kind::EndpointInfo),
+        ("device-identity", Kind::DeviceIdentity),
+        ("endpoint-name", Kind::EndpointName),
+        ("product-instance-id", Kind::ProductInstanceId),
+        ("function-block-info", Kind::FunctionBlockInfo),
+        ("function-block-name", Kind::FunctionBlockName),
+    ] {
+        let tally = mixed(kind, pool);
+        println!(rt; "{name} {tally}")?;
+        all = all.and(tally);
     }
+    Ok(all)
 }
 
-// A line: what was run, and its tally.
-fn put_tally(out: &mut [u8], at: usize, name: &[u8], tally: &[u64]) -> usize {
-    let p = ascii_lines::put_named(out, at, name, tally);
-    ascii_lines::put_byte(out, p, b'\n')
-}
-
-// The line of a kind in buffers of one to sixty-five packets, most with a tail, and its tally added to that of all.
-fn put_kind(
-    out: &mut [u8],
-    at: usize,
-    name: &[u8],
-    kind: usize,
-    pool: &[u8],
-    all: &mut [u64],
-) -> usize {
-    let mut tally = [0u64; 10];
-    in_words(4, mixed(kind), pool, &mut tally);
-    in_words(7, mixed(kind), pool, &mut tally);
-    in_words(13, mixed(kind), pool, &mut tally);
-    in_words(34, mixed(kind), pool, &mut tally);
-    in_words(263, mixed(kind), pool, &mut tally);
-    add(all, &tally);
-    put_tally(out, at, name, &tally)
-}
-
-// The line of the planted differences: as many differ as are planted.
-fn put_planted(out: &mut [u8], at: usize, pool: &[u8]) -> usize {
-    let mut tally = [0u64; 10];
-    plant_each(pool, &mut tally);
-    put_tally(out, at, b"planted", &tally)
-}
-
-// The line of the year, and its tally added to that of all.
-fn put_year(out: &mut [u8], at: usize, pool: &[u8], all: &mut [u64]) -> usize {
-    let mut tally = [0u64; 10];
-    in_words(35, renames(), pool, &mut tally);
-    add(all, &tally);
-    put_tally(out, at, b"renames-of-a-year", &tally)
-}
-
-fn put_endpoint(out: &mut [u8], at: usize, pool: &[u8], all: &mut [u64]) -> usize {
-    let a = put_kind(out, at, b"endpoint-discovery", 0, pool, all);
-    let b = put_kind(out, a, b"endpoint-info", 1, pool, all);
-    put_kind(out, b, b"device-identity", 2, pool, all)
-}
-
-fn put_texts(out: &mut [u8], at: usize, pool: &[u8], all: &mut [u64]) -> usize {
-    let a = put_kind(out, at, b"endpoint-name", 3, pool, all);
-    put_kind(out, a, b"product-instance-id", 4, pool, all)
-}
-
-fn put_block(out: &mut [u8], at: usize, pool: &[u8], all: &mut [u64]) -> usize {
-    let a = put_kind(out, at, b"function-block-info", 5, pool, all);
-    let b = put_kind(out, a, b"function-block-name", 6, pool, all);
-    put_year(out, b, pool, all)
-}
-
-fn put_all(out: &mut [u8], pool: &[u8]) -> usize {
-    let mut all = [0u64; 10];
-    let head = ascii_lines::put_text(
-        out,
-        0,
-        b"run made accepted refused differed by-3 by-11 by-12 by-13 by-14 by-others\n",
-    );
-    let planted = put_planted(out, head, pool);
-    let a = put_endpoint(out, planted, pool, &mut all);
-    let b = put_texts(out, a, pool, &mut all);
-    let c = put_block(out, b, pool, &mut all);
-    put_tally(out, c, b"all", &all)
-}
-
+// As many of the planted differences differ as are planted. A line is what was run, and its tally.
 fn main(rt: HostRuntime) -> io::Result<()> {
-    let mut pool = [0u8; 1000];
-    fill_pool(&mut pool);
-    let mut out = [0u8; 2048];
-    let end = put_all(&mut out, &pool);
-    if end <= 2048 {
-        rt.write_all(&out[0..end])?;
-    }
-    Ok(())
+    let pool = made_pool();
+    println!(rt; "run made accepted refused differed by-3 by-11 by-12 by-13 by-14 by-others")?;
+    println!(rt; "planted {}", plant_each(&pool))?;
+    let mixed = print_mixed(&rt, &pool)?;
+    let renames = renames(&pool);
+    println!(rt; "renames-of-a-year {renames}")?;
+    println!(rt; "all {}", mixed.and(renames))
 }

@@ -1,17 +1,15 @@
 // Planted differences: each bit of a block name of two packets, of the zeroed packet after it and of the tail is turned in turn,
 // and told as after a setting. A comparison that does not see one leaves the column `differed` short.
 use crate::run::{build, same};
-use crate::tally::tell;
-use crate::values::Values;
-use records::answers::Answer;
+use crate::tally::Tally;
+use crate::values::{Pool, Values};
+use kinds::kind::Kind;
 
 // The words with one bit turned; there is none past the end.
 fn turn(words: &mut [u32], bit: usize) {
-    let i = bit / 32;
-    if i < words.len() {
-        let w = words[i];
-        let on = bit_ops::bit(w, bit % 32);
-        words[i] = bit_ops::set_bit(w, bit % 32, !on);
+    if let Some(word) = words.get_mut(bit / 32) {
+        let on = bit_ops::bit(*word, bit % 32);
+        *word = bit_ops::set_bit(*word, bit % 32, !on);
     }
 }
 
@@ -24,34 +22,25 @@ fn turn_both(words: &mut [u32], again: &mut [u32], bit: usize) {
     }
 }
 
-fn plant(words: &mut [u32], again: &mut [u32], bit: usize, tally: &mut [u64]) {
-    turn_both(words, again, bit);
-    tell(tally, Answer::Done, same(words, again));
-    turn_both(words, again, bit);
+// Block 5, and eighteen bytes of text, which take two packets.
+fn name(pool: &Pool) -> Values<'_> {
+    Values {
+        numbers: [5, 0, 0, 0, 0, 0, 0, 0, 0],
+        text: &pool[..18],
+    }
 }
 
 // Each bit of fifteen words: three packets and a tail of three.
-fn plant_bits(words: &mut [u32], again: &mut [u32], tally: &mut [u64]) {
-    let mut bit = 0;
-    while bit < 480 {
-        plant(words, again, bit, tally);
-        bit += 1;
-    }
-}
-
-// Eighteen bytes of text, which take two packets.
-fn name() -> Values {
-    Values {
-        numbers: [5, 0, 0, 0, 0, 0, 0, 0, 0],
-        from: 0,
-        to: 18,
-    }
-}
-
-pub(crate) fn plant_each(pool: &[u8], tally: &mut [u64]) {
+pub(crate) fn plant_each(pool: &Pool) -> Tally {
     let mut words = [0u32; 15];
     let mut again = [0u32; 15];
-    build(&mut words, 6, name(), pool);
-    build(&mut again, 6, name(), pool);
-    plant_bits(&mut words, &mut again, tally);
+    build(&mut words, Kind::FunctionBlockName, name(pool));
+    build(&mut again, Kind::FunctionBlockName, name(pool));
+    let mut tally = Tally::default();
+    for bit in 0..480 {
+        turn_both(&mut words, &mut again, bit);
+        tally.tell(Ok(()), same(&words, &again));
+        turn_both(&mut words, &mut again, bit);
+    }
+    tally
 }

@@ -1,55 +1,87 @@
 // What came of a run: settings made, accepted, refused, how often the words differed, and those refused by 3, 11, 12, 13, 14 and others.
-use kinds::refusal::refusal_number;
-use records::answers::Answer;
+use kinds::refusal::Refusal;
+use std::fmt;
 
-// One more in a column; there is none from 10 on.
-fn count(tally: &mut [u64], at: usize) {
-    if at < tally.len() {
-        tally[at] = std::num::wrapping_add_u64(tally[at], 1);
+// On a fresh message only those five refusals come.
+#[derive(Clone, Copy, Default)]
+pub(crate) struct Tally {
+    made: u64,
+    accepted: u64,
+    refused: u64,
+    differed: u64,
+    too_many_packets: u64,
+    not_utf8: u64,
+    number_too_large: u64,
+    no_such_field: u64,
+    no_room: u64,
+    others: u64,
+}
+
+fn count(n: &mut u64) {
+    *n = n.saturating_add(1);
+}
+
+fn sum(a: u64, b: u64) -> u64 {
+    a.saturating_add(b)
+}
+
+impl Tally {
+    fn refuse(&mut self, refusal: Refusal) {
+        count(&mut self.refused);
+        match refusal {
+            Refusal::TooManyPackets => count(&mut self.too_many_packets),
+            Refusal::NotUtf8 => count(&mut self.not_utf8),
+            Refusal::NumberTooLarge => count(&mut self.number_too_large),
+            Refusal::NoSuchField => count(&mut self.no_such_field),
+            Refusal::NoRoom => count(&mut self.no_room),
+            _ => count(&mut self.others),
+        }
+    }
+
+    // A setting more, and whether the words were the same after it.
+    pub(crate) fn tell(&mut self, answer: Result<(), Refusal>, same: bool) {
+        count(&mut self.made);
+        match answer {
+            Ok(()) => count(&mut self.accepted),
+            Err(refusal) => self.refuse(refusal),
+        }
+        if !same {
+            count(&mut self.differed);
+        }
+    }
+
+    // What came of both runs.
+    pub(crate) fn and(self, other: Tally) -> Tally {
+        Tally {
+            made: sum(self.made, other.made),
+            accepted: sum(self.accepted, other.accepted),
+            refused: sum(self.refused, other.refused),
+            differed: sum(self.differed, other.differed),
+            too_many_packets: sum(self.too_many_packets, other.too_many_packets),
+            not_utf8: sum(self.not_utf8, other.not_utf8),
+            number_too_large: sum(self.number_too_large, other.number_too_large),
+            no_such_field: sum(self.no_such_field, other.no_such_field),
+            no_room: sum(self.no_room, other.no_room),
+            others: sum(self.others, other.others),
+        }
     }
 }
 
-fn outcome(answer: Answer) -> usize {
-    match answer {
-        Answer::Done => 1,
-        Answer::Refused(_) => 2,
-    }
-}
-
-// The column of a refusal's number; on a fresh message only those five come.
-fn column(answer: Answer) -> usize {
-    let Answer::Refused(refusal) = answer else {
-        return 10;
-    };
-    match refusal_number(refusal) {
-        3 => 4,
-        11 => 5,
-        12 => 6,
-        13 => 7,
-        14 => 8,
-        _ => 9,
-    }
-}
-
-fn difference(same: bool) -> usize {
-    if same { 10 } else { 3 }
-}
-
-// A setting more, and whether the words were the same after it.
-pub(crate) fn tell(tally: &mut [u64], answer: Answer, same: bool) {
-    count(tally, 0);
-    count(tally, outcome(answer));
-    count(tally, column(answer));
-    count(tally, difference(same));
-}
-
-pub(crate) fn add(all: &mut [u64], tally: &[u64]) {
-    if all.len() != tally.len() {
-        return;
-    }
-    let mut i = 0;
-    while i < all.len() {
-        all[i] = std::num::wrapping_add_u64(all[i], tally[i]);
-        i += 1;
+impl fmt::Display for Tally {
+    fn fmt<W: fmt::Write>(&self, f: &mut fmt::Formatter<W>) -> fmt::Result {
+        write!(
+            f,
+            "{} {} {} {} {} {} {} {} {} {}",
+            self.made,
+            self.accepted,
+            self.refused,
+            self.differed,
+            self.too_many_packets,
+            self.not_utf8,
+            self.number_too_large,
+            self.no_such_field,
+            self.no_room,
+            self.others
+        )
     }
 }

@@ -4,60 +4,36 @@
 // the last ones are 64 and 65 packets, and each refusal with its place.
 #![tactic(auto)]
 
-ghost use Rattle.std.specs.Prelude.{◌<◌};
-
+mod cases;
 mod lent;
 
+use ascii_lines::Writer;
+use cases::Cases;
 use lent::put_lent;
 use std::io;
-use whole_input::read_full;
-
-fn wide(byte: u8) -> usize
-    ensures { result < 256 }
-{
-    byte as usize
-}
+use whole_input::{bytes_read, read_full};
 
 // The lines of one case.
-fn put_case(bytes: &[u8], out: &mut [u8], at: usize) -> usize {
+fn put_case(writer: &mut Writer, bytes: &[u8]) {
     let mut words = [0u32; 512];
     let n = listing::words::read_words(bytes, &mut words);
-    if n > 512 {
-        return at;
-    }
-    let a = listing::one::show(&words[0..n], out, at);
-    let b = ascii_lines::put_byte(out, a, b'\n');
-    let c = put_lent(out, b, &words[0..n]);
-    ascii_lines::put_byte(out, c, b'\n')
+    listing::one::show(writer, &words[..n]);
+    writer.put_byte(b'\n');
+    put_lent(writer, &words[..n]);
+    writer.put_byte(b'\n');
 }
 
-// The lines of all cases.
-fn run(input: &[u8], out: &mut [u8]) -> usize {
-    let mut i = 0;
-    let mut p = 0;
-    while i < input.len() {
-        if input.len() - i < 2 {
-            return p;
-        }
-        let count = wide(input[i]) * 256 + wide(input[i + 1]);
-        let from = i + 2;
-        if (input.len() - from) / 4 < count {
-            return p;
-        }
-        let to = from + count * 4;
-        p = put_case(&input[from..to], out, p);
-        i = to;
+fn put_cases(writer: &mut Writer, cases: Cases<'_>) {
+    for bytes in cases {
+        put_case(writer, bytes);
     }
-    p
 }
 
 fn main(rt: HostRuntime) -> io::Result<()> {
     let mut input = [0u8; 65536];
-    let n = read_full(&mut rt.stdin(), &mut input).bytes;
-    let mut out = [0u8; 65536];
-    let r = run(&input[..n], &mut out);
-    if r <= 65536 {
-        rt.write_all(&out[0..r])?;
-    }
-    Ok(())
+    let n = bytes_read(read_full(&mut rt.stdin(), &mut input));
+    let mut page = [0u8; 65536];
+    let mut writer = Writer::new(&mut page);
+    put_cases(&mut writer, Cases(&input[..n]));
+    rt.write_all(writer.written())
 }

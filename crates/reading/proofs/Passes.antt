@@ -1,5 +1,6 @@
 -- One pass over the heads of a message: its turns, and that what it finds is what the rules give. Closed by the laws of a field, and packet by packet.
-use Prim.Native.Nat.{ℕ, zero, suc, ◌+◌, ◌-◌, ◌*◌, ◌≤◌, ◌<◌}
+use Rattle.std.specs.Prelude.{Option, Some, None}
+use Prim.Native.Nat.{ℕ, zero, suc, ◌+◌, ◌-◌, ◌*◌, ◌^◌, ◌≤◌, ◌<◌}
 use mathlib.Core.Path.{◌≡◌, refl, sym, ap, ◌∙◌}
 use mathlib.Core.Bool.{Bool, true, false}
 use mathlib.Core.List.{List}
@@ -22,7 +23,7 @@ use Rattle.kinds.specs.declared.kind.Kind.{Kind}
 use Rattle.kinds.specs.Layout.{layout, most_of, has_text}
 use Rattle.standard.specs.Heads.{type_of, format_of, stream_type, head_at, packets_of}
 use Rattle.reading.specs.Bodies.{offset_of}
-use Rattle.reading.specs.OnePass.{head_bits, like_first, ends_at, headed_from, headed_packets, seen_text, text_packets, heads_right}
+use Rattle.reading.specs.OnePass.{head_bits, like_first, ends_at, headed_from, headed_packets, seen_text, text_packets, are, heads_right}
 
 -- ---- the turns of the loop
 module _ (ws : List ℕ) (offset p : ℕ) (more : p < 64) where
@@ -37,24 +38,24 @@ module _ (ws : List ℕ) (offset p : ℕ) (more : p < 64) where
   unfolding headed_from
   turn_ends l f = rw (left, l, f)
 
-  pub turn_none : like_first ws offset p ≡ false → headed_from (64 - p) ws offset p ≡ 0
+  pub turn_none : like_first ws offset p ≡ false → headed_from (64 - p) ws offset p ≡ None
   unfolding headed_from
   turn_none l = rw (left, l)
 
-pub turn_over : (ws : List ℕ) (offset p : ℕ) → 64 ≤ p → headed_from (64 - p) ws offset p ≡ 0
+pub turn_over : (ws : List ℕ) (offset p : ℕ) → 64 ≤ p → headed_from (64 - p) ws offset p ≡ None
 unfolding headed_from
 turn_over ws offset p h = let z : 64 - p ≡ 0 = omega arith in rw z
 
 module _ (ws : List ℕ) (offset : ℕ) where
-  pub no_words : length ws ≡ 0 → 0 ≡ headed_packets ws offset
+  pub no_words : length ws ≡ 0 → None ≡ headed_packets ws offset
   unfolding headed_packets
   no_words e = let z : get_or ws 0 0 ≡ 0 = get_or-eq_default ws 0 (omega arith) in rw z
 
-  pub other_type : (type_of (head_at ws 0) ≡ stream_type → ⊥) → 0 ≡ headed_packets ws offset
+  pub other_type : (type_of (head_at ws 0) ≡ stream_type → ⊥) → None ≡ headed_packets ws offset
   unfolding headed_packets
   other_type h = here _ (ne_differ _ _ h) refl
 
-  pub same_type : (n : ℕ) → type_of (head_at ws 0) ≡ stream_type → n ≡ headed_from 64 ws offset 0 → n ≡ headed_packets ws offset
+  pub same_type : (n : Option PacketNumber) → type_of (head_at ws 0) ≡ stream_type → n ≡ headed_from 64 ws offset 0 → n ≡ headed_packets ws offset
   unfolding headed_packets
   same_type n h e = past _ (eq_differ _ _ h) e
 
@@ -99,30 +100,30 @@ module _ (ws : List ℕ) (offset n p : ℕ) (l : Like ws offset p) (f : format_o
       go i (yes h) a b = rest i h b
       go i (no h) a b = let e : i ≡ p = omega arith in rw e (l, f)
 
-saw : (ws : List ℕ) (offset left p n : ℕ) → headed_from left ws offset p ≡ n → 0 < n → From ws offset n p × (n ≤ p + left)
+saw : (ws : List ℕ) (offset left p : ℕ) (n : PacketNumber) → headed_from left ws offset p ≡ Some n → From ws offset n.0 p × (n.0 ≤ p + left)
 unfolding headed_from ends_at
-saw ws offset zero p n e h = absurd (omega arith)
-saw ws offset (suc left) p n e h = split (like_first ws offset p) (some (λ q. saw ws offset left (p + 1) n q h)) none
+saw ws offset zero p n e = absurd (cc)
+saw ws offset (suc left) p n e = split (like_first ws offset p) (some (λ q. saw ws offset left (p + 1) n q)) none
   where
     f : ℕ
     f = format_of (head_at ws p)
 
-    goes : (headed_from left ws offset (p + 1) ≡ n → From ws offset n (p + 1) × (n ≤ p + 1 + left)) → like_first ws offset p ≡ true → eqb f (due_format (p + 2) p) ≡ true → From ws offset n p × (n ≤ p + suc left)
+    goes : (headed_from left ws offset (p + 1) ≡ Some n → From ws offset n.0 (p + 1) × (n.0 ≤ p + 1 + left)) → like_first ws offset p ≡ true → eqb f (due_format (p + 2) p) ≡ true → From ws offset n.0 p × (n.0 ≤ p + suc left)
     goes next l g =
         let r = next (rw (l, g) at e) in
         let a = r.0.some in
-        (from_more ws offset n p (like ws offset p l) (eqb-true _ _ g ∙ due_more n p (omega arith)) (omega arith) (λ i x y. (r.0.each i (omega arith) y, r.0.format i (omega arith) y)), omega (arith, r.1))
+        (from_more ws offset n.0 p (like ws offset p l) (eqb-true _ _ g ∙ due_more n.0 p (omega arith)) (omega arith) (λ i x y. (r.0.each i (omega arith) y, r.0.format i (omega arith) y)), omega (arith, r.1))
 
-    ends : like_first ws offset p ≡ true → eqb f (due_format (p + 2) p) ≡ false → From ws offset n p × (n ≤ p + suc left)
+    ends : like_first ws offset p ≡ true → eqb f (due_format (p + 2) p) ≡ false → From ws offset n.0 p × (n.0 ≤ p + suc left)
     ends l g = split (eqb f (due_format (p + 1) p))
-        (λ t. let q : p + 1 ≡ n = rw (l, g, t) at e in (from_more ws offset n p (like ws offset p l) (eqb-true _ _ t ∙ ap (λ (k : ℕ). due_format k p) q) (omega arith) (λ i x y. absurd (omega arith)), omega arith))
-        (λ t. let q : 0 ≡ n = rw (l, g, t) at e in absurd (omega arith))
+        (λ t. let s : Some (packet (p + 1)) ≡ Some n = rw (l, g, t) at e in let r : packet (p + 1) ≡ n = cc in let q : p + 1 ≡ n.0 = ap (λ (x : PacketNumber). x.0) r in (from_more ws offset n.0 p (like ws offset p l) (eqb-true _ _ t ∙ ap (λ (k : ℕ). due_format k p) q) (omega arith) (λ i x y. absurd (omega arith)), omega arith))
+        (λ t. let q : None ≡ Some n = rw (l, g, t) at e in absurd (cc))
 
-    some : (headed_from left ws offset (p + 1) ≡ n → From ws offset n (p + 1) × (n ≤ p + 1 + left)) → like_first ws offset p ≡ true → From ws offset n p × (n ≤ p + suc left)
+    some : (headed_from left ws offset (p + 1) ≡ Some n → From ws offset n.0 (p + 1) × (n.0 ≤ p + 1 + left)) → like_first ws offset p ≡ true → From ws offset n.0 p × (n.0 ≤ p + suc left)
     some next l = split (eqb f (due_format (p + 2) p)) (goes next l) (ends l)
 
-    none : like_first ws offset p ≡ false → From ws offset n p × (n ≤ p + suc left)
-    none l = let q : 0 ≡ n = rw l at e in absurd (omega arith)
+    none : like_first ws offset p ≡ false → From ws offset n.0 p × (n.0 ≤ p + suc left)
+    none l = let q : None ≡ Some n = rw l at e in absurd (cc)
 
 -- a message of n packets at the start of the words, as the pass saw it
 pub record Headed (ws : List ℕ) (offset n : ℕ) : Type 0 where
@@ -132,11 +133,11 @@ pub record Headed (ws : List ℕ) (offset n : ℕ) : Type 0 where
   pub each : (p : ℕ) → p < n → Like ws offset p
   pub format : (p : ℕ) → p < n → format_of (head_at ws p) ≡ due_format n p
 
-pub headed_seen : (ws : List ℕ) (offset n : ℕ) → headed_packets ws offset ≡ n → 0 < n → Headed ws offset n
+pub headed_seen : (ws : List ℕ) (offset : ℕ) {n : PacketNumber} → headed_packets ws offset ≡ Some n → Headed ws offset n.0
 unfolding headed_packets
-headed_seen ws offset n e h = split (differ (type_of (head_at ws 0)) stream_type)
-    (λ t. let q : 0 ≡ n = rw t at e in absurd (omega arith))
-    (λ t. let s = saw ws offset 64 0 n (rw t at e) h in record { some = h; most = omega (arith, s.1); type = differ_false _ _ t; each = λ p l. s.0.each p (omega arith) l; format = λ p l. s.0.format p (omega arith) l })
+headed_seen ws offset {n} e = split (differ (type_of (head_at ws 0)) stream_type)
+    (λ t. let q : None ≡ Some n = rw t at e in absurd (cc))
+    (λ t. let s = saw ws offset 64 0 n (rw t at e) in record { some = s.0.some; most = omega (arith, s.1); type = differ_false _ _ t; each = λ p l. s.0.each p (omega arith) l; format = λ p l. s.0.format p (omega arith) l })
 
 -- it is seen by its own words alone
 module _ (ws : List ℕ) (offset n : ℕ) (s : Headed ws offset n) where
@@ -161,15 +162,14 @@ module _ (ws : List ℕ) (offset n : ℕ) (s : Headed ws offset n) where
     format = λ p h. rw (front (p * 4) (omega arith)) (s.format p h);
   }
 
--- its packets are all there, and few
-pub headed_within : (ws : List ℕ) (offset n : ℕ) → headed_packets ws offset ≡ n → (n * 4 ≤ length ws) × (n ≤ 64)
-headed_within ws offset zero e = (omega arith, omega arith)
-headed_within ws offset (suc n) e = let s = headed_seen ws offset (suc n) e (omega arith) in (headed_room ws offset (suc n) s, s.most)
+-- its packets are all there
+headed_within : (ws : List ℕ) (offset : ℕ) {n : PacketNumber} → headed_packets ws offset ≡ Some n → n.0 * 4 ≤ length ws
+headed_within ws offset {n} e = headed_room ws offset n.0 (headed_seen ws offset e)
 
--- the word after them
-pub headed_to : (ws : List ℕ) (offset : ℕ) {n : PacketNumber} {k : WordNumber} → n ≡ packet (headed_packets ws offset) → k ≡ wrapped (first_word n) → k.0 ≡ n.0 * 4
-headed_to ws offset {n} e t =
-    let h = (headed_within ws offset n.0 (sym (ap (λ (x : PacketNumber). x.0) e))).1 in
+-- the words of the packets that the pass saw, as 64 bits hold their number
+pub headed_to : (ws : List ℕ) (offset : ℕ) {n : PacketNumber} {k : WordNumber} → headed_packets ws offset ≡ Some n → k ≡ wrapped (first_word n) → length ws < 2 ^ 64 → k.0 ≡ n.0 * 4
+headed_to ws offset e t l =
+    let h = headed_within ws offset e in
     let f = ap (λ (x : WordNumber). x.0) t in
     omega (arith, h, f)
 
@@ -179,27 +179,31 @@ module _ (k : Kind) (ws : List ℕ) (n : ℕ) where
   unfolding heads_right
   too_many h = here _ (lt-ltb (most_of k) n h) refl
 
-  pub not_many : (m : ℕ) {offset : ℕ} → n ≤ most_of k → offset ≡ offset_of k → m ≡ headed_packets ws offset → eqb m n ≡ heads_right k ws n
+  pub not_many : {m : Option PacketNumber} {offset : ℕ} → n ≤ most_of k → offset ≡ offset_of k → m ≡ headed_packets ws offset → are m n ≡ heads_right k ws n
   unfolding heads_right
-  not_many m h o e = past _ (le-ltb (most_of k) n h) (rw (e, o))
+  not_many h o e = past _ (le-ltb (most_of k) n h) (rw (e, o))
 
 -- ---- their text
 pub text_seen : (k : Kind) (ws : List ℕ) {offset : ℕ} → has_text (layout k).body ≡ true → offset ≡ offset_of k → seen_text ws offset ≡ text_packets k ws
 text_seen k ws h o = rw (h, o)
 
-module _ (ws : List ℕ) (offset n : ℕ) (e : headed_packets ws offset ≡ n) where
-  pub headed_words : n * 4 ≡ length (take (n * 4) ws)
-  headed_words = sym (length-take-le (n * 4) ws (headed_within ws offset n e).0)
+pub none_seen : (ws : List ℕ) (offset : ℕ) → headed_packets ws offset ≡ None → None ≡ seen_text ws offset
+unfolding seen_text
+none_seen ws offset e = rw e
 
-  verdict : (b : Bool) → is_good (first_bad (text_of (take (n * 4) ws) (14 - offset) (packets_of (take (n * 4) ws)))) ≡ b → pick b n 0 ≡ seen_text ws offset
+module _ (ws : List ℕ) (offset : ℕ) {n : PacketNumber} (e : headed_packets ws offset ≡ Some n) where
+  pub headed_words : n.0 * 4 ≡ length (take (n.0 * 4) ws)
+  headed_words = sym (length-take-le (n.0 * 4) ws (headed_within ws offset e))
+
+  verdict : (b : Bool) → is_good (first_bad (text_of (take (n.0 * 4) ws) (14 - offset) (packets_of (take (n.0 * 4) ws)))) ≡ b → pick b (Some n) None ≡ seen_text ws offset
   unfolding seen_text
   verdict b g =
       let w = headed_words in
-      let q : packets_of (take (n * 4) ws) ≡ n = omega arith in
+      let q : packets_of (take (n.0 * 4) ws) ≡ n.0 = omega arith in
       rw (e, rw q at g)
 
-  pub seen_good : is_good (first_bad (text_of (take (n * 4) ws) (14 - offset) (packets_of (take (n * 4) ws)))) ≡ true → n ≡ seen_text ws offset
+  pub seen_good : is_good (first_bad (text_of (take (n.0 * 4) ws) (14 - offset) (packets_of (take (n.0 * 4) ws)))) ≡ true → Some n ≡ seen_text ws offset
   seen_good g = verdict true g
 
-  pub seen_bad : is_good (first_bad (text_of (take (n * 4) ws) (14 - offset) (packets_of (take (n * 4) ws)))) ≡ false → 0 ≡ seen_text ws offset
+  pub seen_bad : is_good (first_bad (text_of (take (n.0 * 4) ws) (14 - offset) (packets_of (take (n.0 * 4) ws)))) ≡ false → None ≡ seen_text ws offset
   seen_bad g = verdict false g

@@ -1,13 +1,14 @@
 -- Refusal 8 by the code's rule. Closed by the one slot of a block name, and that a packet is not unlike itself.
 use Prim.Native.Nat.{ℕ, ◌*◌, ◌≤◌, ◌<◌}
-use mathlib.Core.Path.{◌≡◌, refl, sym, ap, ◌∙◌, fun_ext}
+use mathlib.Core.Path.{◌≡◌, refl, sym, ap, ◌∙◌}
 use mathlib.Core.Bool.{Bool, false}
 use mathlib.Core.List.{List, [], ◌∷◌}
 use native.Mathlib.Omega.{arith}
 use native.Mathlib.Nat.{add-zero}
 use lib.ListN.{get_or}
 use lib.Seq.{get_or-drop}
-use Rattle.laws.specs.First.{first}
+use Rattle.laws.specs.Pick.{differ}
+use Rattle.laws.specs.Bits.{field_of}
 use Rattle.laws.proofs.Pick.{split, eq_differ, is_picked}
 use Rattle.slots.specs.Slots.{Slot, get}
 use Rattle.kinds.specs.declared.kind.Kind.{Kind}
@@ -16,8 +17,6 @@ use Rattle.kinds.specs.Layout.{Part, layout, most_of, has_text}
 use Rattle.standard.specs.Heads.{packets_of, packet_from, head_at}
 use Rattle.standard.specs.Reading.{other_field, read_body}
 use Rattle.standard.proofs.Rules.{ruled_kept}
-use Rattle.reading.specs.declared.rules.Rule.TheVariants as U
-use Rattle.reading.specs.Rules.{breaks_of, broken_by}
 use Rattle.reading.specs.Bodies.{offset_of, fields_read}
 use Rattle.reading.proofs.TextRows.{fixed_most, late_name, text_fields}
 
@@ -25,15 +24,16 @@ use Rattle.reading.proofs.TextRows.{fixed_most, late_name, text_fields}
 from_head : (ws : List ℕ) (p : ℕ) → get_or (packet_from ws p) 0 0 ≡ head_at ws p
 from_head ws p = get_or-drop (p * 4) ws 0 0 ∙ ap (λ (i : ℕ). get_or ws i 0) (add-zero (p * 4))
 
-block_rule : (ws : List ℕ) (p : ℕ) → broken_by U.FunctionBlock ws p ≡ other_field (layout K.FunctionBlockName).fields ws p
-unfolding breaks_of other_field layout get
+-- a packet's block number is not that of packet 0
+abbrev pub other_block : List ℕ → ℕ → Bool
+other_block ws p = differ (field_of (head_at ws p) 8 8) (field_of (head_at ws 0) 8 8)
+
+block_rule : (ws : List ℕ) (p : ℕ) → other_block ws p ≡ other_field (layout K.FunctionBlockName).fields ws p
+unfolding other_field layout get
 block_rule ws p = rw (from_head ws p) (is_picked _)
 
-pub late_rule : (k : Kind) (ws : List ℕ) → 0 < offset_of k → (p : ℕ) → broken_by U.FunctionBlock ws p ≡ other_field (layout k).fields ws p
+pub late_rule : (k : Kind) (ws : List ℕ) → 0 < offset_of k → (p : ℕ) → other_block ws p ≡ other_field (layout k).fields ws p
 late_rule k ws h p = block_rule ws p ∙ ap (λ (j : Kind). other_field (layout j).fields ws p) (sym (late_name k h))
-
-pub late_first : (k : Kind) (ws : List ℕ) → 0 < offset_of k → first (broken_by U.FunctionBlock ws) (packets_of ws) ≡ first (other_field (layout k).fields ws) (packets_of ws)
-late_first k ws h = ap (λ (t : ℕ → Bool). first t (packets_of ws)) (fun_ext (late_rule k ws h))
 
 -- packet 0 is not unlike itself
 same-packet : (t : List (Slot Part)) (ws : List ℕ) → other_field t ws 0 ≡ false

@@ -10,7 +10,7 @@ use text::{Stepped, TextPlace};
 fn text_offset(words: &[u32]) -> usize
     ensures { result ≡ offset_here words.now }
 {
-    if words.len() == 0 {
+    if words.is_empty() {
         return 0;
     }
     if status_of(words[0]) == 0x12 {

@@ -4,9 +4,8 @@ ghost use Rattle.bit_ops.specs.Parts.{part_in};
 ghost use Rattle.kinds.specs.declared.kind.Kind.TheVariants as K;
 ghost use Rattle.standard.specs.Reading.{message_at, read_body};
 
-use kinds::choices::{direction_of_valid_code, hint_of_valid_code, port_of_valid_code};
+use kinds::choices::{Direction, Midi1Port, hint_of_valid_code};
 use kinds::refusal::Refusal;
-use records::answers::Read;
 use records::device_identity::{DeviceIdentity, Manufacturer, SoftwareVersion};
 use records::endpoint_discovery::EndpointDiscovery;
 use records::endpoint_info::EndpointInfo;
@@ -14,6 +13,7 @@ use records::function_block_info::FunctionBlockInfo;
 use records::message::Message;
 use text::packets::packets_of;
 
+#[tactic(auto, unfolding(crate::proofs::Bodies::from_words))]
 pub(crate) fn endpoint_discovery(words: &[u32]) -> Message
     requires { 4 ≤ length words.now }
     ensures { result ≡ message_at K.EndpointDiscovery words.now }
@@ -31,6 +31,7 @@ pub(crate) fn endpoint_discovery(words: &[u32]) -> Message
     })
 }
 
+#[tactic(auto, unfolding(crate::proofs::Bodies::from_words))]
 pub(crate) fn endpoint_info(words: &[u32]) -> Message
     requires { 4 ≤ length words.now }
     ensures { result ≡ message_at K.EndpointInfo words.now }
@@ -53,11 +54,10 @@ pub(crate) fn endpoint_info(words: &[u32]) -> Message
 fn pair(w: u32, low: usize, high: usize) -> u16
     ensures { result ≡ part_in 8 7 w low + part_in 8 7 w high * 128 }
 {
-    let l = bit_ops::septet(w, low) as u16;
-    let h = bit_ops::septet(w, high) as u16;
-    l + h * 128
+    u16::from(bit_ops::septet(w, low)) + u16::from(bit_ops::septet(w, high)) * 128
 }
 
+#[tactic(auto, unfolding(crate::proofs::Bodies::from_words))]
 pub(crate) fn device_identity(words: &[u32]) -> Message
     requires { 4 ≤ length words.now }
     ensures { result ≡ message_at K.DeviceIdentity words.now }
@@ -96,41 +96,33 @@ pub(crate) fn product_instance_id(words: &[u32]) -> Message
     Message::ProductInstanceId(packets_of(words))
 }
 
-pub(crate) fn function_block_info(words: &[u32]) -> Message
-    requires { 4 ≤ length words.now }
-    ensures { result ≡ message_at K.FunctionBlockInfo words.now }
-{
-    let a = words[0];
-    let b = words[1];
-    Message::FunctionBlockInfo(FunctionBlockInfo {
-        active: bit_ops::bit(a, 16),
-        function_block_number: bit_ops::septet(a, 2),
-        ui_hint: hint_of_valid_code(bit_ops::crumb(a, 13)),
-        midi1_port: port_of_valid_code(bit_ops::crumb(a, 14)),
-        direction: direction_of_valid_code(bit_ops::crumb(a, 15)),
-        first_group: bit_ops::nibble(b, 1),
-        number_of_groups_spanned: bit_ops::octet(b, 1),
-        midi_ci_version: bit_ops::octet(b, 2),
-        max_number_of_midi_ci_streams: bit_ops::octet(b, 3),
-    })
-}
-
-// Refusals 9 and 10, and else the message.
-#[tactic(auto, unfolding(standard::specs::Reading::read_body))]
-pub(crate) fn read_function_block_info(words: &[u32]) -> Read
+// Refusals 9 and 10, and else the message. Each of the four codes of a hint is one.
+pub(crate) fn read_function_block_info(words: &[u32]) -> Result<Message, Refusal>
     requires { 4 ≤ length words.now }
     ensures { result ≡ read_body K.FunctionBlockInfo words.now }
 {
     let a = words[0];
-    if bit_ops::crumb(a, 14) == 3 {
-        return Read::Refused(Refusal::BadPort);
-    }
-    if bit_ops::crumb(a, 15) == 0 {
-        return Read::Refused(Refusal::BadDirection);
-    }
-    Read::Message(function_block_info(words))
+    let b = words[1];
+    let Ok(midi1_port) = Midi1Port::try_from(bit_ops::crumb(a, 14) as u32) else {
+        return Err(Refusal::BadPort);
+    };
+    let Ok(direction) = Direction::try_from(bit_ops::crumb(a, 15) as u32) else {
+        return Err(Refusal::BadDirection);
+    };
+    Ok(Message::FunctionBlockInfo(FunctionBlockInfo {
+        active: bit_ops::bit(a, 16),
+        function_block_number: bit_ops::septet(a, 2),
+        ui_hint: hint_of_valid_code(bit_ops::crumb(a, 13)),
+        midi1_port,
+        direction,
+        first_group: bit_ops::nibble(b, 1),
+        number_of_groups_spanned: bit_ops::octet(b, 1),
+        midi_ci_version: bit_ops::octet(b, 2),
+        max_number_of_midi_ci_streams: bit_ops::octet(b, 3),
+    }))
 }
 
+#[tactic(auto, unfolding(crate::proofs::Bodies::from_words))]
 pub(crate) fn function_block_name(words: &[u32]) -> Message
     requires { 4 ≤ length words.now }
     ensures { result ≡ message_at K.FunctionBlockName words.now }

@@ -9,6 +9,7 @@ pub fn type_of(word: u32) -> u8
     bit_ops::nibble(word, 0)
 }
 
+// As a number, since it is compared with the format due.
 #[tactic(auto, unfolding(bit_ops::specs::Parts::part_in))]
 pub fn format_of(word: u32) -> u8
     ensures { result ≡ format_of word }

@@ -1,6 +1,5 @@
 // Checks the heads of a message in one pass: each must be like the first except for its format, and the formats must run from Start to End.
 ghost use Rattle.std.specs.Prelude.{◌≡◌, ◌<◌};
-ghost use Rattle.counts.specs.Counts.{packet};
 ghost use Rattle.reading.specs.OnePass.{text_bits, head_bits, like_first, ends_at, headed_packets};
 
 use crate::heads::{format_of, type_of};
@@ -33,47 +32,41 @@ fn head_bits(word: u32, offset: usize) -> u32
 fn like_first(words: &[u32], offset: usize, p: PacketNumber) -> bool
     ensures { result ≡ like_first words.now offset p.0 }
 {
-    if packets_of(words).0 <= p.0 {
-        return false;
-    }
-    head_bits(head_at(words, p), offset) == head_bits(words[0], offset)
+    p.0 < packets_of(words).0 && head_bits(head_at(words, p), offset) == head_bits(words[0], offset)
 }
 
-// The number of packets if packet p, with this format, is the last one; else 0.
+// The number of packets if packet p, with this format, is the last one.
 #[tactic(auto, unfolding(crate::specs::OnePass::ends_at))]
-fn ends_at(format: u8, p: PacketNumber) -> PacketNumber
+fn ends_at(format: u8, p: PacketNumber) -> Option<PacketNumber>
     requires { p.0 < 64 }
-    ensures { result ≡ packet (ends_at «format» p.0) }
+    ensures { result ≡ ends_at «format» p.0 }
 {
     let n = PacketNumber(p.0 + 1);
     if format == due_format(n, p) {
-        return n;
+        return Some(n);
     }
-    PacketNumber(0)
+    None
 }
 
-// The number of packets of the message at the start of the words, or 0 if a head is wrong.
-pub(crate) fn headed_packets(words: &[u32], offset: usize) -> PacketNumber
-    ensures { result ≡ packet (headed_packets words.now offset) }
+// The number of packets of the message at the start of the words, if no head is wrong.
+pub(crate) fn headed_packets(words: &[u32], offset: usize) -> Option<PacketNumber>
+    ensures { result ≡ headed_packets words.now offset }
 {
-    if words.len() == 0 {
-        return PacketNumber(0);
+    if words.is_empty() {
+        return None;
     }
     if type_of(words[0]) != 15 {
-        return PacketNumber(0);
+        return None;
     }
-    let mut p = 0;
-    while p < 64 {
+    for p in 0..64 {
         let at = PacketNumber(p);
-        if like_first(words, offset, at) {
-            let format = format_of(head_at(words, at));
-            if format != due_format(PacketNumber(p + 2), at) {
-                return ends_at(format, at);
-            }
-            p += 1;
-        } else {
-            return PacketNumber(0);
+        if !like_first(words, offset, at) {
+            return None;
+        }
+        let format = format_of(head_at(words, at));
+        if format != due_format(PacketNumber(p + 2), at) {
+            return ends_at(format, at);
         }
     }
-    PacketNumber(0)
+    None
 }

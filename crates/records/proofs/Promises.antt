@@ -1,5 +1,6 @@
 -- What a setting on a record does, for every setting: refused, nothing; accepted, its field has its value and every other field its old one.
 -- Closed by computing the records at each kind once, and induction on the table.
+use Rattle.std.specs.Prelude.{Ok, Err}
 use Prim.Native.Nat.{ℕ}
 use mathlib.Core.Path.{◌≡◌, refl, sym, ap, ◌∙◌}
 use mathlib.Core.Bool.{true, false}
@@ -18,7 +19,6 @@ use Rattle.kinds.proofs.Homes.{each_field, each-field}
 use Rattle.kinds.proofs.Fields.{same_refl}
 use Rattle.records.specs.declared.message.Message.{Message}
 use Rattle.records.specs.declared.message.Message.TheVariants as M
-use Rattle.records.specs.declared.answers.Answer.TheVariants as A
 use Rattle.records.specs.declared.answers.Edited.{Edited}
 use Rattle.records.specs.Records.{kind_in, packets_in, record_of, values_of, first_part, in_order}
 use Rattle.records.specs.Settings.{with, lacks, is_too_large, edited, set_record, set_edited, followed}
@@ -30,22 +30,22 @@ new_record : Setting → Message → Message
 new_record s m = record_of (kind_in m) (packets_in m) (with (field_in s) (value_in s) (values_of m))
 
 module _ (s : Setting) (m : Message) where
-  outcomes : {X : Type 0} → (set_record s m ≡ edited m (A.Refused NoSuchField) → X) → (set_record s m ≡ edited m (A.Refused NumberTooLarge) → X) → (lacks (layout (kind_in m)).fields s ≡ false → set_record s m ≡ edited (new_record s m) A.Done → X) → X
+  outcomes : {X : Type 0} → (set_record s m ≡ edited m (Err NoSuchField) → X) → (set_record s m ≡ edited m (Err NumberTooLarge) → X) → (lacks (layout (kind_in m)).fields s ≡ false → set_record s m ≡ edited (new_record s m) (Ok tt) → X) → X
   unfolding new_record
   outcomes a b c =
       split (lacks (layout (kind_in m)).fields s) (λ l. a (sym (lacking s m l)))
       (λ l. split (is_too_large (layout (kind_in m)).fields s) (λ t. b (sym (too_large s m l t))) (λ t. c l (sym (made s m l t refl))))
 
   -- a refused setting hands the record back unchanged
-  pub refused_kept : (r : Refusal) → (set_record s m).answer ≡ A.Refused r → (set_record s m).message ≡ m
+  pub refused_kept : (r : Refusal) → (set_record s m).answer ≡ Err r → (set_record s m).message ≡ m
   refused_kept r e = outcomes (λ q. ap (λ (x : Edited). x.message) q) (λ q. ap (λ (x : Edited). x.message) q) (λ l q. never (cc))
 
   -- what is said where one is accepted
-  accepted : (set_record s m).answer ≡ A.Done → (lacks (layout (kind_in m)).fields s ≡ false) × ((set_record s m).message ≡ new_record s m)
+  accepted : (set_record s m).answer ≡ Ok tt → (lacks (layout (kind_in m)).fields s ≡ false) × ((set_record s m).message ≡ new_record s m)
   accepted e = outcomes (λ q. never (cc)) (λ q. never (cc)) (λ l q. (l, ap (λ (x : Edited). x.message) q))
 
 -- text is refused
-pub text_refused : (t : Text) (bytes : List ℕ) (m : Message) → set_record (Setting.text t bytes) m ≡ edited m (A.Refused NoSuchField)
+pub text_refused : (t : Text) (bytes : List ℕ) (m : Message) → set_record (Setting.text t bytes) m ≡ edited m (Err NoSuchField)
 text_refused t bytes m = sym (no_text t bytes m)
 
 -- ---- a setting's value is kept whole
@@ -78,7 +78,7 @@ new_packets (M.FunctionBlockName b n) v = refl
 
 -- ---- the field set, and every other
 module _ (s : Setting) (m : Message) where
-  pub set_reads : (set_record s m).answer ≡ A.Done → values_of (set_record s m).message (field_in s) ≡ value_in s
+  pub set_reads : (set_record s m).answer ≡ Ok tt → values_of (set_record s m).message (field_in s) ≡ value_in s
   unfolding new_record
   set_reads e =
       let a = accepted s m e in
@@ -107,10 +107,10 @@ module _ (s : Setting) (e : Edited) where
   unfolding followed
   chain_record = refl
 
-  pub chain_refused : (r : Refusal) → e.answer ≡ A.Refused r → (set_edited s e).answer ≡ A.Refused r
+  pub chain_refused : (r : Refusal) → e.answer ≡ Err r → (set_edited s e).answer ≡ Err r
   unfolding followed
   chain_refused r q = rw q
 
-  pub chain_done : e.answer ≡ A.Done → (set_edited s e).answer ≡ (set_record s e.message).answer
+  pub chain_done : e.answer ≡ Ok tt → (set_edited s e).answer ≡ (set_record s e.message).answer
   unfolding followed
   chain_done q = rw q

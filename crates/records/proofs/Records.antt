@@ -1,4 +1,5 @@
 -- A record is of the kind, the packets and the values that it was made of. Closed by cases on the kind, and the laws of the choices.
+use Rattle.std.specs.Prelude.{Result, Ok, Err}
 use Prim.Native.Nat.{ℕ, ◌≤◌}
 use mathlib.Core.Path.{◌≡◌, refl, sym, ap, ◌∙◌}
 use mathlib.Core.Logic.{◌≢◌}
@@ -20,8 +21,6 @@ use Rattle.kinds.proofs.Fields.{same_true}
 use Rattle.kinds.proofs.Codes.{bit_flag, hint_back, port_back, direction_back, no_code_port, no_code_direction}
 use Rattle.records.specs.declared.message.Message.{Message}
 use Rattle.records.specs.declared.message.Message.TheVariants as M
-use Rattle.records.specs.declared.answers.Answer.TheVariants as A
-use Rattle.records.specs.declared.answers.Read.TheVariants as R
 use Rattle.records.specs.Records.{Valued, kind_in, packets_in, record_of, fields_in, lookup, values_of, first_part, in_order}
 
 -- the record of its own values
@@ -116,8 +115,8 @@ direction_named m =
     (picked (λ (v : List ℕ). get_or v 0 0 ≢ no_direction) (is_in Field.direction (in_order (kind_in m))) _ _ (λ i. no_code_direction (direction_of (get_or (values_of m Field.direction) 0 0))) (λ i q. omega arith))
 
 -- ---- an answer that refuses is no other
-pub refused-message : {r : Refusal} {m : Message} → R.Refused r ≡ R.Message m → ⊥
+pub refused-message : {r : Refusal} {m : Message} → ◌≡◌ {A = Result Message Refusal} (Err r) (Ok m) → ⊥
 refused-message e = never (cc)
 
-pub refused_done : {r : Refusal} → A.Refused r ≡ A.Done → ⊥
+pub refused_done : {r : Refusal} → ◌≡◌ {A = Result (Unit {0}) Refusal} (Err r) (Ok tt) → ⊥
 refused_done e = never (cc)

@@ -1,22 +1,17 @@
 -- Settings on a record: refusals 13 then 12; else the record with the field's new value.
-use Rattle.std.specs.Prelude.{ℕ, Bool, true, not, List, [], ◌∷◌, ltb, eqb}
+use Rattle.std.specs.Prelude.{ℕ, Bool, true, not, List, [], ◌∷◌, ltb, eqb, Result, Ok, Err}
 use Rattle.laws.specs.Pick.{pick, both}
 use Rattle.slots.specs.Slots.{Slot, fits}
 use Rattle.kinds.specs.declared.kind.Kind.{Kind}
-use Rattle.kinds.specs.declared.choices.UiHint.{UiHint}
-use Rattle.kinds.specs.declared.choices.Midi1Port.{Midi1Port}
-use Rattle.kinds.specs.declared.choices.Direction.{Direction}
 use Rattle.kinds.specs.declared.refusal.Refusal.TheVariants.{NumberTooLarge, NoSuchField}
-use Rattle.records.specs.declared.function_block_info.FunctionBlockInfo.{FunctionBlockInfo}
 use Rattle.records.specs.declared.message.Message.{Message}
-use Rattle.records.specs.declared.answers.Answer.{Answer}
-use Rattle.records.specs.declared.answers.Answer.TheVariants as A
 use Rattle.records.specs.declared.answers.Edited.{Edited}
 use Rattle.kinds.specs.Fields.{Number, Text, Field, Setting, field_in, value_in, same}
 use Rattle.table.specs.declared.names.NumberName.{NumberName}
 use Rattle.table.specs.declared.names.NumberName.TheVariants as N
 use Rattle.kinds.specs.Layout.{Part, layout, none, slots_of, numbers_set}
 use Rattle.records.specs.Records.{kind_in, packets_in, record_of, values_of}
+use Rattle.kinds.specs.declared.refusal.Refusal.{Refusal}
 
 -- the values with one field changed
 abbrev pub with : Field → List ℕ → (Field → List ℕ) → Field → List ℕ
@@ -30,15 +25,15 @@ lacks t s = none (slots_of (field_in s) t)
 abbrev pub is_too_large : List (Slot Part) → Setting → Bool
 is_too_large t s = not (fits (slots_of (field_in s) t) (numbers_set s))
 
-abbrev pub edited : Message → Answer → Edited
+abbrev pub edited : Message → Result (Unit {0}) Refusal → Edited
 edited m a = record { message = m; answer = a }
 
 -- A SETTING ON A RECORD: refused, it hands the record back unchanged
 unfoldable pub set_record : Setting → Message → Edited
 set_record s m =
-    pick (lacks (layout (kind_in m)).fields s) (edited m (A.Refused NoSuchField))
-    (pick (is_too_large (layout (kind_in m)).fields s) (edited m (A.Refused NumberTooLarge))
-    (edited (record_of (kind_in m) (packets_in m) (with (field_in s) (value_in s) (values_of m))) A.Done))
+    pick (lacks (layout (kind_in m)).fields s) (edited m (Err NoSuchField))
+    (pick (is_too_large (layout (kind_in m)).fields s) (edited m (Err NumberTooLarge))
+    (edited (record_of (kind_in m) (packets_in m) (with (field_in s) (value_in s) (values_of m))) (Ok tt)))
 
 -- ---- names that two kinds have
 -- the version: of status 0x00 the discovery's, else the endpoint info's, which every other kind lacks
@@ -71,26 +66,11 @@ unfoldable pub septets : List ℕ → Bool
 septets [] = true
 septets (x ∷ xs) = both (ltb x 128) (septets xs)
 
--- a block with other choices
-abbrev pub chosen_in : FunctionBlockInfo → UiHint → Midi1Port → Direction → FunctionBlockInfo
-chosen_in b h p d =
-    record {
-      active = b.active;
-      function_block_number = b.function_block_number;
-      ui_hint = h;
-      midi1_port = p;
-      direction = d;
-      first_group = b.first_group;
-      number_of_groups_spanned = b.number_of_groups_spanned;
-      midi_ci_version = b.midi_ci_version;
-      max_number_of_midi_ci_streams = b.max_number_of_midi_ci_streams;
-    }
-
 -- ---- a chain
 -- a chain keeps its first refusal, and goes on with the record handed back
-abbrev first_refusal : Answer → Answer → Answer
-first_refusal A.Done b = b
-first_refusal (A.Refused r) b = A.Refused r
+abbrev first_refusal : Result (Unit {0}) Refusal → Result (Unit {0}) Refusal → Result (Unit {0}) Refusal
+first_refusal (Ok tt) b = b
+first_refusal (Err r) b = Err r
 
 unfoldable pub followed : Edited → Edited → Edited
 followed a b = edited b.message (first_refusal a.answer b.answer)

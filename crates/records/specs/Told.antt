@@ -1,5 +1,5 @@
 -- RECORDS AND SETTINGS ON THEM, TOLD ONCE MORE: each sentence of document 01 by an example in literal numbers.
-use Rattle.std.specs.Prelude.{ℕ, ◌≡◌, Bool, true, false, List, [], ◌∷◌}
+use Rattle.std.specs.Prelude.{ℕ, ◌≡◌, Bool, true, false, List, [], ◌∷◌, Ok}
 use Rattle.counts.specs.Counts.{packet}
 use Rattle.kinds.specs.declared.kind.Kind.TheVariants as K
 use Rattle.kinds.specs.declared.choices.UiHint.{UiHint}
@@ -12,8 +12,6 @@ use Rattle.kinds.specs.Fields.{Flag, Number, Pair, Text, Setting}
 use Rattle.table.specs.declared.names.NumberName.TheVariants as N
 use Rattle.records.specs.declared.message.Message.{Message}
 use Rattle.records.specs.declared.message.Message.TheVariants as M
-use Rattle.records.specs.declared.answers.Read.TheVariants as R
-use Rattle.records.specs.declared.answers.Answer.TheVariants as A
 use Rattle.records.specs.declared.answers.Edited.{Edited}
 use Rattle.records.specs.Answers.{Said, accepted, said_read, said_answer}
 use Rattle.records.specs.Settings.{major_of, minor_of, name_of, number_in, edited, set_record, set_edited}
@@ -90,7 +88,7 @@ block_info = block_of true 5 H.SenderReceiver P.RestrictBandwidth D.Input 15 6 7
 
 -- a record says this
 abbrev Says : Message → List ℕ → Type 0
-Says m values = said_read (R.Message m) ≡ accepted values
+Says m values = said_read (Ok m) ≡ accepted values
 
 pub record ToldRecords : Type 0 where
   -- status, packets, fields in the table's order, 0 or 1 for flags, codes for choices
@@ -118,7 +116,7 @@ chained (s ∷ ss) e = chained ss (set_edited s e)
 
 abbrev Chains : List Setting → Message → Said → Message → Type 0
 Chains ss m said left =
-    (said_answer (chained ss (edited m A.Done)).answer ≡ said) × ((chained ss (edited m A.Done)).message ≡ left)
+    (said_answer (chained ss (edited m (Ok tt))).answer ≡ said) × ((chained ss (edited m (Ok tt))).message ≡ left)
 
 -- one setting: accepted with another record, or refused with the same
 abbrev Leaves : Setting → Message → Message → Type 0

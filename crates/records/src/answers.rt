@@ -3,16 +3,8 @@ ghost use Rattle.std.specs.Prelude.{◌≡◌};
 ghost use Rattle.records.specs.Settings.{edited, followed};
 
 use crate::message::Message;
-use crate::packet::Packet;
 use counts::WordNumber;
 use kinds::refusal::Refusal;
-
-// Reading one message.
-#[derive(Clone, Copy)]
-pub enum Read {
-    Message(Message),
-    Refused(Refusal),
-}
 
 // Walking to a word position. Each answer but the end carries the next position.
 #[derive(Clone, Copy)]
@@ -33,75 +25,54 @@ pub enum Walked {
     },
 }
 
-// Taking a packet from a slice.
-#[derive(Clone, Copy)]
-pub enum PacketRead {
-    Packet(Packet),
-    Refused(Refusal),
-}
-
-// The words of the message that a slice starts with.
-#[derive(Clone, Copy)]
-pub enum MessageSize {
-    Words(WordNumber),
-    Refused(Refusal),
-}
-
-// Making a fresh message, a setting, or writing a record.
-#[derive(Clone, Copy)]
-pub enum Answer {
-    Done,
-    Refused(Refusal),
-}
-
 // A setting on a record: the record handed back, and the answer.
 #[derive(Clone, Copy)]
 pub struct Edited {
     pub message: Message,
-    pub answer: Answer,
+    pub answer: Result<(), Refusal>,
 }
 
-// An accepted setting.
-pub(crate) fn done(message: Message) -> Edited
-    ensures { result ≡ edited message Answer.Done }
-{
-    Edited {
-        message,
-        answer: Answer::Done,
+impl Edited {
+    // An accepted setting.
+    pub(crate) fn done(message: Message) -> Edited
+        ensures { result ≡ edited message (Ok tt) }
+    {
+        Edited {
+            message,
+            answer: Ok(()),
+        }
     }
-}
 
-// A refused setting hands the record back unchanged.
-pub(crate) fn refused(message: Message, refusal: Refusal) -> Edited
-    ensures { result ≡ edited message (Answer.Refused refusal) }
-{
-    Edited {
-        message,
-        answer: Answer::Refused(refusal),
+    // A refused setting hands the record back unchanged.
+    pub(crate) fn refused(message: Message, refusal: Refusal) -> Edited
+        ensures { result ≡ edited message (Err refusal) }
+    {
+        Edited {
+            message,
+            answer: Err(refusal),
+        }
     }
-}
 
-pub(crate) fn no_such_field(message: Message) -> Edited
-    ensures { result ≡ edited message (Answer.Refused Refusal.NoSuchField) }
-{
-    refused(message, Refusal::NoSuchField)
-}
+    pub(crate) fn no_such_field(message: Message) -> Edited
+        ensures { result ≡ edited message (Err Refusal.NoSuchField) }
+    {
+        Edited::refused(message, Refusal::NoSuchField)
+    }
 
-pub(crate) fn too_large(message: Message) -> Edited
-    ensures { result ≡ edited message (Answer.Refused Refusal.NumberTooLarge) }
-{
-    refused(message, Refusal::NumberTooLarge)
-}
+    pub(crate) fn too_large(message: Message) -> Edited
+        ensures { result ≡ edited message (Err Refusal.NumberTooLarge) }
+    {
+        Edited::refused(message, Refusal::NumberTooLarge)
+    }
 
-// Two settings in a row: the record of the second, and the first refusal.
-#[tactic(auto, unfolding(crate::specs::Settings::followed))]
-pub(crate) fn then(first: Edited, next: Edited) -> Edited
-    ensures { result ≡ followed first next }
-{
-    let answer = first.answer;
-    let Answer::Refused(refusal) = answer else {
-        return next;
-    };
-    let message = next.message;
-    refused(message, refusal)
+    // Two settings in a row: the record of the second, and the first refusal.
+    #[tactic(auto, unfolding(crate::specs::Settings::followed))]
+    pub(crate) fn then(self, next: Edited) -> Edited
+        ensures { result ≡ followed self next }
+    {
+        Edited {
+            message: next.message,
+            answer: self.answer.and(next.answer),
+        }
+    }
 }

@@ -1,12 +1,10 @@
 // Status 0x02: who made a device, and which it is.
-ghost use Rattle.std.specs.Prelude.{◌≡◌, not, [], ◌∷◌};
+ghost use Rattle.std.specs.Prelude.{◌≡◌, not};
 ghost use Rattle.kinds.specs.Fields.{Pair, Setting};
 ghost use Rattle.records.specs.Settings.{septets, set_record, set_edited};
 
 use crate::answers::Edited;
 use crate::message::Message;
-use crate::{answers, named};
-use table::names::PairName;
 
 // One field of three numbers.
 #[derive(Clone, Copy)]
@@ -24,66 +22,54 @@ pub struct DeviceIdentity {
     pub software_version: SoftwareVersion,
 }
 
-// Whether a number is above 127. A caller with three numbers passes 0 as the fourth.
-#[tactic(auto, unfolding(crate::specs::Settings::septets))]
-fn any_above_127(a: u32, b: u32, c: u32, d: u32) -> bool
-    ensures { result ≡ not (septets (a ∷ b ∷ c ∷ d ∷ [])) }
+// Whether a number is above 127.
+fn any_above_127(numbers: &[u32]) -> bool
+    ensures { result ≡ not (septets numbers.now) }
 {
-    if a > 127 {
-        return true;
-    }
-    if b > 127 {
-        return true;
-    }
-    if c > 127 {
-        return true;
-    }
-    d > 127
+    numbers.iter().any(|&number| number > 127)
 }
 
 // Settings on a record.
+#[tactic(auto, unfolding(crate::proofs::Methods::setting), using(crate::proofs::Methods::other_identity))]
 impl Message {
     pub fn set_device_manufacturer(mut self, first: u32, second: u32, third: u32) -> Edited
         ensures { result ≡ set_record (Setting.device_manufacturer first second third) self }
     {
-        let Message::DeviceIdentity(mut identity) = self else {
-            return answers::no_such_field(self);
+        let Message::DeviceIdentity(identity) = &mut self else {
+            return Edited::no_such_field(self);
         };
-        if any_above_127(first, second, third, 0) {
-            return answers::too_large(self);
+        if any_above_127(&[first, second, third]) {
+            return Edited::too_large(self);
         }
         let numbers = Manufacturer(first as u8, second as u8, third as u8);
         identity.device_manufacturer = numbers;
-        self = Message::DeviceIdentity(identity);
-        answers::done(self)
+        Edited::done(self)
     }
 
     pub fn set_device_family(mut self, number: u32) -> Edited
         ensures { result ≡ set_record (Setting.pair Pair.device_family number) self }
     {
-        let Message::DeviceIdentity(mut identity) = self else {
-            return answers::no_such_field(self);
+        let Message::DeviceIdentity(identity) = &mut self else {
+            return Edited::no_such_field(self);
         };
         if number > 16383 {
-            return answers::too_large(self);
+            return Edited::too_large(self);
         }
         identity.device_family = number as u16;
-        self = Message::DeviceIdentity(identity);
-        answers::done(self)
+        Edited::done(self)
     }
 
     pub fn set_device_family_model_number(mut self, number: u32) -> Edited
         ensures { result ≡ set_record (Setting.pair Pair.device_family_model_number number) self }
     {
-        let Message::DeviceIdentity(mut identity) = self else {
-            return answers::no_such_field(self);
+        let Message::DeviceIdentity(identity) = &mut self else {
+            return Edited::no_such_field(self);
         };
         if number > 16383 {
-            return answers::too_large(self);
+            return Edited::too_large(self);
         }
         identity.device_family_model_number = number as u16;
-        self = Message::DeviceIdentity(identity);
-        answers::done(self)
+        Edited::done(self)
     }
 
     pub fn set_software_version(
@@ -95,16 +81,15 @@ impl Message {
     ) -> Edited
         ensures { result ≡ set_record (Setting.software_version first second third fourth) self }
     {
-        let Message::DeviceIdentity(mut identity) = self else {
-            return answers::no_such_field(self);
+        let Message::DeviceIdentity(identity) = &mut self else {
+            return Edited::no_such_field(self);
         };
-        if any_above_127(first, second, third, fourth) {
-            return answers::too_large(self);
+        if any_above_127(&[first, second, third, fourth]) {
+            return Edited::too_large(self);
         }
         let numbers = SoftwareVersion(first as u8, second as u8, third as u8, fourth as u8);
         identity.software_version = numbers;
-        self = Message::DeviceIdentity(identity);
-        answers::done(self)
+        Edited::done(self)
     }
 }
 
@@ -113,26 +98,27 @@ impl Edited {
     pub fn set_device_manufacturer(self, first: u32, second: u32, third: u32) -> Edited
         ensures { result ≡ set_edited (Setting.device_manufacturer first second third) self }
     {
-        let m = self.message;
-        answers::then(self, m.set_device_manufacturer(first, second, third))
+        self.then(self.message.set_device_manufacturer(first, second, third))
     }
 
     pub fn set_device_family(self, number: u32) -> Edited
         ensures { result ≡ set_edited (Setting.pair Pair.device_family number) self }
     {
-        named::then_pair(self, PairName::DeviceFamily, number)
+        self.then(self.message.set_device_family(number))
     }
 
     pub fn set_device_family_model_number(self, number: u32) -> Edited
         ensures { result ≡ set_edited (Setting.pair Pair.device_family_model_number number) self }
     {
-        named::then_pair(self, PairName::DeviceFamilyModelNumber, number)
+        self.then(self.message.set_device_family_model_number(number))
     }
 
     pub fn set_software_version(self, first: u32, second: u32, third: u32, fourth: u32) -> Edited
         ensures { result ≡ set_edited (Setting.software_version first second third fourth) self }
     {
-        let m = self.message;
-        answers::then(self, m.set_software_version(first, second, third, fourth))
+        self.then(
+            self.message
+                .set_software_version(first, second, third, fourth),
+        )
     }
 }

@@ -5,8 +5,6 @@ ghost use Rattle.records.specs.Settings.{set_record, set_edited};
 
 use crate::answers::Edited;
 use crate::message::Message;
-use crate::{answers, named};
-use table::names::FlagName;
 
 #[derive(Clone, Copy)]
 pub struct EndpointDiscovery {
@@ -20,60 +18,56 @@ pub struct EndpointDiscovery {
 }
 
 // Settings on a record.
+#[tactic(auto, unfolding(crate::proofs::Methods::setting), using(crate::proofs::Methods::other_discovery))]
 impl Message {
     pub fn set_request_endpoint_info(mut self, on: bool) -> Edited
         ensures { result ≡ set_record (Setting.flag Flag.request_endpoint_info on) self }
     {
-        let Message::EndpointDiscovery(mut discovery) = self else {
-            return answers::no_such_field(self);
+        let Message::EndpointDiscovery(discovery) = &mut self else {
+            return Edited::no_such_field(self);
         };
         discovery.request_endpoint_info = on;
-        self = Message::EndpointDiscovery(discovery);
-        answers::done(self)
+        Edited::done(self)
     }
 
     pub fn set_request_device_identity(mut self, on: bool) -> Edited
         ensures { result ≡ set_record (Setting.flag Flag.request_device_identity on) self }
     {
-        let Message::EndpointDiscovery(mut discovery) = self else {
-            return answers::no_such_field(self);
+        let Message::EndpointDiscovery(discovery) = &mut self else {
+            return Edited::no_such_field(self);
         };
         discovery.request_device_identity = on;
-        self = Message::EndpointDiscovery(discovery);
-        answers::done(self)
+        Edited::done(self)
     }
 
     pub fn set_request_endpoint_name(mut self, on: bool) -> Edited
         ensures { result ≡ set_record (Setting.flag Flag.request_endpoint_name on) self }
     {
-        let Message::EndpointDiscovery(mut discovery) = self else {
-            return answers::no_such_field(self);
+        let Message::EndpointDiscovery(discovery) = &mut self else {
+            return Edited::no_such_field(self);
         };
         discovery.request_endpoint_name = on;
-        self = Message::EndpointDiscovery(discovery);
-        answers::done(self)
+        Edited::done(self)
     }
 
     pub fn set_request_product_instance_id(mut self, on: bool) -> Edited
         ensures { result ≡ set_record (Setting.flag Flag.request_product_instance_id on) self }
     {
-        let Message::EndpointDiscovery(mut discovery) = self else {
-            return answers::no_such_field(self);
+        let Message::EndpointDiscovery(discovery) = &mut self else {
+            return Edited::no_such_field(self);
         };
         discovery.request_product_instance_id = on;
-        self = Message::EndpointDiscovery(discovery);
-        answers::done(self)
+        Edited::done(self)
     }
 
     pub fn set_request_stream_configuration(mut self, on: bool) -> Edited
         ensures { result ≡ set_record (Setting.flag Flag.request_stream_configuration on) self }
     {
-        let Message::EndpointDiscovery(mut discovery) = self else {
-            return answers::no_such_field(self);
+        let Message::EndpointDiscovery(discovery) = &mut self else {
+            return Edited::no_such_field(self);
         };
         discovery.request_stream_configuration = on;
-        self = Message::EndpointDiscovery(discovery);
-        answers::done(self)
+        Edited::done(self)
     }
 }
 
@@ -82,30 +76,30 @@ impl Edited {
     pub fn set_request_endpoint_info(self, on: bool) -> Edited
         ensures { result ≡ set_edited (Setting.flag Flag.request_endpoint_info on) self }
     {
-        named::then_flag(self, FlagName::RequestEndpointInfo, on)
+        self.then(self.message.set_request_endpoint_info(on))
     }
 
     pub fn set_request_device_identity(self, on: bool) -> Edited
         ensures { result ≡ set_edited (Setting.flag Flag.request_device_identity on) self }
     {
-        named::then_flag(self, FlagName::RequestDeviceIdentity, on)
+        self.then(self.message.set_request_device_identity(on))
     }
 
     pub fn set_request_endpoint_name(self, on: bool) -> Edited
         ensures { result ≡ set_edited (Setting.flag Flag.request_endpoint_name on) self }
     {
-        named::then_flag(self, FlagName::RequestEndpointName, on)
+        self.then(self.message.set_request_endpoint_name(on))
     }
 
     pub fn set_request_product_instance_id(self, on: bool) -> Edited
         ensures { result ≡ set_edited (Setting.flag Flag.request_product_instance_id on) self }
     {
-        named::then_flag(self, FlagName::RequestProductInstanceId, on)
+        self.then(self.message.set_request_product_instance_id(on))
     }
 
     pub fn set_request_stream_configuration(self, on: bool) -> Edited
         ensures { result ≡ set_edited (Setting.flag Flag.request_stream_configuration on) self }
     {
-        named::then_flag(self, FlagName::RequestStreamConfiguration, on)
+        self.then(self.message.set_request_stream_configuration(on))
     }
 }

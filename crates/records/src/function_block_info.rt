@@ -1,13 +1,11 @@
 // Status 0x11: one function block of an endpoint, with its three named choices.
 ghost use Rattle.std.specs.Prelude.{◌≡◌};
 ghost use Rattle.kinds.specs.Fields.{Flag, Number, Setting};
-ghost use Rattle.records.specs.Settings.{chosen_in, set_record, set_edited};
+ghost use Rattle.records.specs.Settings.{set_record, set_edited};
 
 use crate::answers::Edited;
 use crate::message::Message;
-use crate::{answers, named};
 use kinds::choices::{Direction, Midi1Port, UiHint};
-use table::names::{FlagName, NumberName};
 
 #[derive(Clone, Copy)]
 pub struct FunctionBlockInfo {
@@ -22,145 +20,112 @@ pub struct FunctionBlockInfo {
     pub max_number_of_midi_ci_streams: u8,
 }
 
-// The block with these choices.
-fn chosen(
-    block: FunctionBlockInfo,
-    hint: UiHint,
-    port: Midi1Port,
-    direction: Direction,
-) -> FunctionBlockInfo
-    ensures { result ≡ chosen_in block hint port direction }
-{
-    FunctionBlockInfo {
-        active: block.active,
-        function_block_number: block.function_block_number,
-        ui_hint: hint,
-        midi1_port: port,
-        direction,
-        first_group: block.first_group,
-        number_of_groups_spanned: block.number_of_groups_spanned,
-        midi_ci_version: block.midi_ci_version,
-        max_number_of_midi_ci_streams: block.max_number_of_midi_ci_streams,
-    }
-}
-
 // Settings on a record.
+#[tactic(auto, unfolding(crate::proofs::Methods::setting), using(crate::proofs::Methods::block_laws))]
 impl Message {
     pub fn set_active(mut self, on: bool) -> Edited
         ensures { result ≡ set_record (Setting.flag Flag.active on) self }
     {
-        let Message::FunctionBlockInfo(mut block) = self else {
-            return answers::no_such_field(self);
+        let Message::FunctionBlockInfo(block) = &mut self else {
+            return Edited::no_such_field(self);
         };
         block.active = on;
-        self = Message::FunctionBlockInfo(block);
-        answers::done(self)
+        Edited::done(self)
     }
 
     pub fn set_function_block_number(mut self, number: u32) -> Edited
         ensures { result ≡ set_record (Setting.number Number.function_block_number number) self }
     {
-        let Message::FunctionBlockInfo(mut block) = self else {
-            return answers::no_such_field(self);
+        let Message::FunctionBlockInfo(block) = &mut self else {
+            return Edited::no_such_field(self);
         };
         if number > 127 {
-            return answers::too_large(self);
+            return Edited::too_large(self);
         }
         block.function_block_number = number as u8;
-        self = Message::FunctionBlockInfo(block);
-        answers::done(self)
+        Edited::done(self)
     }
 
     pub fn set_ui_hint(mut self, hint: UiHint) -> Edited
         ensures { result ≡ set_record (Setting.ui_hint hint) self }
     {
-        let Message::FunctionBlockInfo(block) = self else {
-            return answers::no_such_field(self);
+        let Message::FunctionBlockInfo(block) = &mut self else {
+            return Edited::no_such_field(self);
         };
-        let port = block.midi1_port;
-        let direction = block.direction;
-        self = Message::FunctionBlockInfo(chosen(block, hint, port, direction));
-        answers::done(self)
+        block.ui_hint = hint;
+        Edited::done(self)
     }
 
     pub fn set_midi1_port(mut self, port: Midi1Port) -> Edited
         ensures { result ≡ set_record (Setting.midi1_port port) self }
     {
-        let Message::FunctionBlockInfo(block) = self else {
-            return answers::no_such_field(self);
+        let Message::FunctionBlockInfo(block) = &mut self else {
+            return Edited::no_such_field(self);
         };
-        let hint = block.ui_hint;
-        let direction = block.direction;
-        self = Message::FunctionBlockInfo(chosen(block, hint, port, direction));
-        answers::done(self)
+        block.midi1_port = port;
+        Edited::done(self)
     }
 
     pub fn set_direction(mut self, direction: Direction) -> Edited
         ensures { result ≡ set_record (Setting.direction direction) self }
     {
-        let Message::FunctionBlockInfo(block) = self else {
-            return answers::no_such_field(self);
+        let Message::FunctionBlockInfo(block) = &mut self else {
+            return Edited::no_such_field(self);
         };
-        let hint = block.ui_hint;
-        let port = block.midi1_port;
-        self = Message::FunctionBlockInfo(chosen(block, hint, port, direction));
-        answers::done(self)
+        block.direction = direction;
+        Edited::done(self)
     }
 
     pub fn set_first_group(mut self, number: u32) -> Edited
         ensures { result ≡ set_record (Setting.number Number.first_group number) self }
     {
-        let Message::FunctionBlockInfo(mut block) = self else {
-            return answers::no_such_field(self);
+        let Message::FunctionBlockInfo(block) = &mut self else {
+            return Edited::no_such_field(self);
         };
         if number > 15 {
-            return answers::too_large(self);
+            return Edited::too_large(self);
         }
         block.first_group = number as u8;
-        self = Message::FunctionBlockInfo(block);
-        answers::done(self)
+        Edited::done(self)
     }
 
     pub fn set_number_of_groups_spanned(mut self, number: u32) -> Edited
         ensures { result ≡ set_record (Setting.number Number.number_of_groups_spanned number) self }
     {
-        let Message::FunctionBlockInfo(mut block) = self else {
-            return answers::no_such_field(self);
+        let Message::FunctionBlockInfo(block) = &mut self else {
+            return Edited::no_such_field(self);
         };
         if number > 255 {
-            return answers::too_large(self);
+            return Edited::too_large(self);
         }
         block.number_of_groups_spanned = number as u8;
-        self = Message::FunctionBlockInfo(block);
-        answers::done(self)
+        Edited::done(self)
     }
 
     pub fn set_midi_ci_version(mut self, number: u32) -> Edited
         ensures { result ≡ set_record (Setting.number Number.midi_ci_version number) self }
     {
-        let Message::FunctionBlockInfo(mut block) = self else {
-            return answers::no_such_field(self);
+        let Message::FunctionBlockInfo(block) = &mut self else {
+            return Edited::no_such_field(self);
         };
         if number > 255 {
-            return answers::too_large(self);
+            return Edited::too_large(self);
         }
         block.midi_ci_version = number as u8;
-        self = Message::FunctionBlockInfo(block);
-        answers::done(self)
+        Edited::done(self)
     }
 
     pub fn set_max_number_of_midi_ci_streams(mut self, number: u32) -> Edited
         ensures { result ≡ set_record (Setting.number Number.max_number_of_midi_ci_streams number) self }
     {
-        let Message::FunctionBlockInfo(mut block) = self else {
-            return answers::no_such_field(self);
+        let Message::FunctionBlockInfo(block) = &mut self else {
+            return Edited::no_such_field(self);
         };
         if number > 255 {
-            return answers::too_large(self);
+            return Edited::too_large(self);
         }
         block.max_number_of_midi_ci_streams = number as u8;
-        self = Message::FunctionBlockInfo(block);
-        answers::done(self)
+        Edited::done(self)
     }
 }
 
@@ -169,57 +134,54 @@ impl Edited {
     pub fn set_active(self, on: bool) -> Edited
         ensures { result ≡ set_edited (Setting.flag Flag.active on) self }
     {
-        named::then_flag(self, FlagName::Active, on)
+        self.then(self.message.set_active(on))
     }
 
     pub fn set_function_block_number(self, number: u32) -> Edited
         ensures { result ≡ set_edited (Setting.number Number.function_block_number number) self }
     {
-        named::then_number(self, NumberName::FunctionBlockNumber, number)
+        self.then(self.message.set_function_block_number(number))
     }
 
     pub fn set_ui_hint(self, hint: UiHint) -> Edited
         ensures { result ≡ set_edited (Setting.ui_hint hint) self }
     {
-        let m = self.message;
-        answers::then(self, m.set_ui_hint(hint))
+        self.then(self.message.set_ui_hint(hint))
     }
 
     pub fn set_midi1_port(self, port: Midi1Port) -> Edited
         ensures { result ≡ set_edited (Setting.midi1_port port) self }
     {
-        let m = self.message;
-        answers::then(self, m.set_midi1_port(port))
+        self.then(self.message.set_midi1_port(port))
     }
 
     pub fn set_direction(self, direction: Direction) -> Edited
         ensures { result ≡ set_edited (Setting.direction direction) self }
     {
-        let m = self.message;
-        answers::then(self, m.set_direction(direction))
+        self.then(self.message.set_direction(direction))
     }
 
     pub fn set_first_group(self, number: u32) -> Edited
         ensures { result ≡ set_edited (Setting.number Number.first_group number) self }
     {
-        named::then_number(self, NumberName::FirstGroup, number)
+        self.then(self.message.set_first_group(number))
     }
 
     pub fn set_number_of_groups_spanned(self, number: u32) -> Edited
         ensures { result ≡ set_edited (Setting.number Number.number_of_groups_spanned number) self }
     {
-        named::then_number(self, NumberName::NumberOfGroupsSpanned, number)
+        self.then(self.message.set_number_of_groups_spanned(number))
     }
 
     pub fn set_midi_ci_version(self, number: u32) -> Edited
         ensures { result ≡ set_edited (Setting.number Number.midi_ci_version number) self }
     {
-        named::then_number(self, NumberName::MidiCiVersion, number)
+        self.then(self.message.set_midi_ci_version(number))
     }
 
     pub fn set_max_number_of_midi_ci_streams(self, number: u32) -> Edited
         ensures { result ≡ set_edited (Setting.number Number.max_number_of_midi_ci_streams number) self }
     {
-        named::then_number(self, NumberName::MaxNumberOfMidiCiStreams, number)
+        self.then(self.message.set_max_number_of_midi_ci_streams(number))
     }
 }

@@ -3,30 +3,23 @@ ghost use Rattle.std.specs.Prelude.{◌≡◌};
 ghost use Rattle.kinds.specs.Fields.{Number, Setting};
 ghost use Rattle.records.specs.Settings.{set_record, set_edited};
 
-use crate::answers;
 use crate::answers::Edited;
 use crate::message::Message;
 
 // Settings on a record.
+#[tactic(auto, unfolding(crate::proofs::Methods::setting), using(crate::proofs::Methods::other_block_name))]
 impl Message {
     pub fn set_function_block(mut self, number: u32) -> Edited
         ensures { result ≡ set_record (Setting.number Number.function_block number) self }
     {
-        let Message::FunctionBlockName {
-            function_block: _,
-            packets,
-        } = self
-        else {
-            return answers::no_such_field(self);
+        let Message::FunctionBlockName { function_block, .. } = &mut self else {
+            return Edited::no_such_field(self);
         };
         if number > 255 {
-            return answers::too_large(self);
+            return Edited::too_large(self);
         }
-        self = Message::FunctionBlockName {
-            function_block: number as u8,
-            packets,
-        };
-        answers::done(self)
+        *function_block = number as u8;
+        Edited::done(self)
     }
 }
 
@@ -35,7 +28,6 @@ impl Edited {
     pub fn set_function_block(self, number: u32) -> Edited
         ensures { result ≡ set_edited (Setting.number Number.function_block number) self }
     {
-        let m = self.message;
-        answers::then(self, m.set_function_block(number))
+        self.then(self.message.set_function_block(number))
     }
 }

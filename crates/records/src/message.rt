@@ -35,27 +35,18 @@ pub fn kind_in(message: Message) -> Kind
         Message::EndpointName(_) => Kind::EndpointName,
         Message::ProductInstanceId(_) => Kind::ProductInstanceId,
         Message::FunctionBlockInfo(_) => Kind::FunctionBlockInfo,
-        Message::FunctionBlockName {
-            function_block: _,
-            packets: _,
-        } => Kind::FunctionBlockName,
+        Message::FunctionBlockName { .. } => Kind::FunctionBlockName,
     }
 }
 
-// A record's packets.
+// A record's packets: one of a fixed kind.
 pub fn packets_in(message: Message) -> PacketNumber
     ensures { result ≡ packet (packets_in message) }
 {
     match message {
-        Message::EndpointName(packets) => packets,
-        Message::ProductInstanceId(packets) => packets,
-        Message::FunctionBlockName {
-            function_block: _,
-            packets,
-        } => packets,
-        Message::EndpointDiscovery(_) => PacketNumber(1),
-        Message::EndpointInfo(_) => PacketNumber(1),
-        Message::DeviceIdentity(_) => PacketNumber(1),
-        Message::FunctionBlockInfo(_) => PacketNumber(1),
+        Message::EndpointName(packets)
+        | Message::ProductInstanceId(packets)
+        | Message::FunctionBlockName { packets, .. } => packets,
+        _ => PacketNumber(1),
     }
 }

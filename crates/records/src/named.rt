@@ -1,10 +1,10 @@
-// Settings of a flag, a number or a pair by its name, on a record and on the result of a setting.
+// Settings of a flag, a number or a pair by its name.
 ghost use Rattle.std.specs.Prelude.{◌≡◌};
 ghost use Rattle.kinds.specs.Fields.{Setting};
 ghost use Rattle.table.specs.Named.{flag_named, pair_named};
-ghost use Rattle.records.specs.Settings.{number_in, set_record, set_edited};
+ghost use Rattle.records.specs.Settings.{number_in, set_record};
 
-use crate::answers::{Edited, then};
+use crate::answers::Edited;
 use crate::message::Message;
 use table::names::{FlagName, NumberName, PairName};
 
@@ -30,10 +30,10 @@ pub fn edit_number(message: Message, number: NumberName, x: u32) -> Edited
     ensures { result ≡ set_record (number_in number x message) message }
 {
     match number {
-        NumberName::DiscoveryVersionMajor => message.set_ump_version_major(x),
-        NumberName::DiscoveryVersionMinor => message.set_ump_version_minor(x),
-        NumberName::InfoVersionMajor => message.set_ump_version_major(x),
-        NumberName::InfoVersionMinor => message.set_ump_version_minor(x),
+        NumberName::DiscoveryVersionMajor | NumberName::InfoVersionMajor =>
+            message.set_ump_version_major(x),
+        NumberName::DiscoveryVersionMinor | NumberName::InfoVersionMinor =>
+            message.set_ump_version_minor(x),
         NumberName::NumberOfFunctionBlocks => message.set_number_of_function_blocks(x),
         NumberName::FunctionBlockNumber => message.set_function_block_number(x),
         NumberName::FirstGroup => message.set_first_group(x),
@@ -50,25 +50,4 @@ pub fn edit_pair(message: Message, pair: PairName, x: u32) -> Edited
         PairName::DeviceFamily => message.set_device_family(x),
         PairName::DeviceFamilyModelNumber => message.set_device_family_model_number(x),
     }
-}
-
-pub(crate) fn then_flag(first: Edited, flag: FlagName, on: bool) -> Edited
-    ensures { result ≡ set_edited (Setting.flag (flag_named flag) on) first }
-{
-    let m = first.message;
-    then(first, edit_flag(m, flag, on))
-}
-
-pub(crate) fn then_number(first: Edited, number: NumberName, x: u32) -> Edited
-    ensures { result ≡ set_edited (number_in number x first.message) first }
-{
-    let m = first.message;
-    then(first, edit_number(m, number, x))
-}
-
-pub(crate) fn then_pair(first: Edited, pair: PairName, x: u32) -> Edited
-    ensures { result ≡ set_edited (Setting.pair (pair_named pair) x) first }
-{
-    let m = first.message;
-    then(first, edit_pair(m, pair, x))
 }

@@ -6,55 +6,36 @@ ghost use Rattle.records.specs.Settings.{major_of, minor_of, set_record, set_edi
 
 use crate::answers::Edited;
 use crate::message::Message;
-use crate::{answers, named};
-use table::names::NumberName;
 
 // Settings on a record.
+#[tactic(auto, unfolding(crate::proofs::Methods::setting), using(crate::proofs::Methods::no_version, kinds::proofs::Codes::bit_flag))]
 impl Message {
     pub fn set_ump_version_major(mut self, number: u32) -> Edited
         ensures { result ≡ set_record (Setting.number (major_of (kind_in self)) number) self }
     {
-        match self {
-            Message::EndpointDiscovery(mut discovery) => {
-                if number > 255 {
-                    return answers::too_large(self);
-                }
-                discovery.ump_version_major = number as u8;
-                self = Message::EndpointDiscovery(discovery);
+        match &mut self {
+            Message::EndpointDiscovery(_) | Message::EndpointInfo(_) if number > 255 => {
+                return Edited::too_large(self);
             }
-            Message::EndpointInfo(mut info) => {
-                if number > 255 {
-                    return answers::too_large(self);
-                }
-                info.ump_version_major = number as u8;
-                self = Message::EndpointInfo(info);
-            }
-            _ => return answers::no_such_field(self),
+            Message::EndpointDiscovery(discovery) => discovery.ump_version_major = number as u8,
+            Message::EndpointInfo(info) => info.ump_version_major = number as u8,
+            _ => return Edited::no_such_field(self),
         }
-        answers::done(self)
+        Edited::done(self)
     }
 
     pub fn set_ump_version_minor(mut self, number: u32) -> Edited
         ensures { result ≡ set_record (Setting.number (minor_of (kind_in self)) number) self }
     {
-        match self {
-            Message::EndpointDiscovery(mut discovery) => {
-                if number > 255 {
-                    return answers::too_large(self);
-                }
-                discovery.ump_version_minor = number as u8;
-                self = Message::EndpointDiscovery(discovery);
+        match &mut self {
+            Message::EndpointDiscovery(_) | Message::EndpointInfo(_) if number > 255 => {
+                return Edited::too_large(self);
             }
-            Message::EndpointInfo(mut info) => {
-                if number > 255 {
-                    return answers::too_large(self);
-                }
-                info.ump_version_minor = number as u8;
-                self = Message::EndpointInfo(info);
-            }
-            _ => return answers::no_such_field(self),
+            Message::EndpointDiscovery(discovery) => discovery.ump_version_minor = number as u8,
+            Message::EndpointInfo(info) => info.ump_version_minor = number as u8,
+            _ => return Edited::no_such_field(self),
         }
-        answers::done(self)
+        Edited::done(self)
     }
 }
 
@@ -63,12 +44,12 @@ impl Edited {
     pub fn set_ump_version_major(self, number: u32) -> Edited
         ensures { result ≡ set_edited (Setting.number (major_of (kind_in self.message)) number) self }
     {
-        named::then_number(self, NumberName::InfoVersionMajor, number)
+        self.then(self.message.set_ump_version_major(number))
     }
 
     pub fn set_ump_version_minor(self, number: u32) -> Edited
         ensures { result ≡ set_edited (Setting.number (minor_of (kind_in self.message)) number) self }
     {
-        named::then_number(self, NumberName::InfoVersionMinor, number)
+        self.then(self.message.set_ump_version_minor(number))
     }
 }

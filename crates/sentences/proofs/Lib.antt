@@ -1,4 +1,3 @@
-pub mod Strings
 pub mod Sentences
 pub mod Told
 pub mod StringLaws

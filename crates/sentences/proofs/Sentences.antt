@@ -1,4 +1,5 @@
 -- Which numbers have a sentence, and what C reads of sentences and names: they are printable, by a computed test of each.
+use Rattle.std.specs.Prelude.{Option, Some, None}
 use Prim.Native.Nat.{ℕ, zero, suc, ◌-◌, ◌≤◌}
 use mathlib.Core.Path.{◌≡◌, refl}
 use mathlib.Core.Bool.{Bool, true}
@@ -6,13 +7,12 @@ use mathlib.Core.List.{List, [], ◌∷◌}
 use lib.ListN.{length, get_or, take, get_or-eq_default}
 use Rattle.laws.specs.Pick.{both}
 use Rattle.laws.proofs.Pick.{both_left, both_right}
-use Rattle.kinds.specs.declared.kind.Known.{Known}
-use Rattle.kinds.specs.declared.kind.Known.TheVariants.{Is, Unknown}
 use Rattle.kinds.specs.Layout.{kind_of}
 use Rattle.kinds.proofs.Rows.{every_kind, at_kind}
 use Rattle.sentences.specs.Strings.{as_string, c_text, printable}
 use Rattle.sentences.specs.Sentences.{sentences, refusal_sentence, kind_name, known_name, status_name}
 use Rattle.sentences.proofs.StringLaws.{string_read}
+use Rattle.kinds.specs.declared.kind.Kind.{Kind}
 
 pub other-number : (number : ℕ) → 15 ≤ number → refusal_sentence number ≡ []
 unfolding sentences
@@ -32,10 +32,10 @@ sentence_printable : (number : ℕ) → printable (refusal_sentence number) ≡ 
 unfolding sentences every_text printable both
 sentence_printable number = every_printable sentences number refl
 
-known_printable : (known : Known) → printable (known_name known) ≡ true
+known_printable : (known : (Option Kind)) → printable (known_name known) ≡ true
 unfolding kind_name printable both every_kind
-known_printable (Is kind) = at_kind (λ k. printable (kind_name k)) refl kind
-known_printable Unknown = refl
+known_printable (Some kind) = at_kind (λ k. printable (kind_name k)) refl kind
+known_printable None = refl
 
 name-printable : (status : ℕ) → printable (status_name status) ≡ true
 name-printable status = known_printable (kind_of status)

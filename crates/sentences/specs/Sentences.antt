@@ -1,9 +1,7 @@
 -- The sentence of each refusal, and the name of each kind.
-use Rattle.std.specs.Prelude.{ℕ, List, [], ◌∷◌, get_or}
+use Rattle.std.specs.Prelude.{ℕ, List, [], ◌∷◌, get_or, Option, Some, None}
 use Rattle.kinds.specs.declared.kind.Kind.{Kind}
 use Rattle.kinds.specs.declared.kind.Kind.TheVariants as K
-use Rattle.kinds.specs.declared.kind.Known.{Known}
-use Rattle.kinds.specs.declared.kind.Known.TheVariants.{Is, Unknown}
 use Rattle.kinds.specs.Layout.{kind_of}
 use Rattle.ascii_lines.specs.Ascii.{ascii}
 
@@ -40,9 +38,9 @@ kind_name K.ProductInstanceId = ascii "product-instance-id"
 kind_name K.FunctionBlockInfo = ascii "function-block-info"
 kind_name K.FunctionBlockName = ascii "function-block-name"
 
-abbrev pub known_name : Known → List ℕ
-known_name (Is kind) = kind_name kind
-known_name Unknown = []
+abbrev pub known_name : Option Kind → List ℕ
+known_name (Some kind) = kind_name kind
+known_name None = []
 
 -- the name of the kind that has this status; empty if none has
 abbrev pub status_name : ℕ → List ℕ

@@ -6,62 +6,67 @@ ghost use Rattle.std.specs.Prelude.{◌≡◌, length};
 ghost use Rattle.sentences.specs.Strings.{as_string};
 ghost use Rattle.sentences.specs.Sentences.{refusal_sentence, kind_name, status_name};
 
-use kinds::kind::{Kind, Known};
+use kinds::kind::Kind;
+use table::rows::kind_of;
 
 // Writes a text and a zero byte after it. The last byte of the buffer is kept for the zero.
 fn put_string(out: &mut [u8], text: &[u8]) -> usize
     ensures answer { result ≡ length text.now }
     ensures bytes { out.new ≡ as_string text.now out.old }
 {
-    if 0 < out.len() {
-        let last = out.len() - 1;
-        let end = ascii_lines::put_text(&mut out[..last], 0, text);
+    if let Some(last) = out.len().checked_sub(1) {
+        let end = text.len().min(last);
+        out[..end].copy_from_slice(&text[..end]);
         out[end] = 0;
     }
     text.len()
 }
 
-// Writes the sentence of a refusal's number; no text where no refusal has the number.
+// The sentence of a refusal's number; no text where no refusal has the number.
 #[tactic(auto, unfolding(crate::specs::Sentences::sentences))]
+fn sentence_of(number: u32) -> &'static [u8]
+    ensures { result.now ≡ refusal_sentence number }
+{
+    match number {
+        0 => b"done",
+        1 => b"there are too few words",
+        2 => b"the length is not a multiple of four words",
+        3 => b"there are more than 64 packets",
+        4 => b"a packet's type is not F",
+        5 => b"the status is none of the seven",
+        6 => b"a later packet has another status",
+        7 => b"a packet's format is not the one due",
+        8 => b"a later packet has another block number",
+        9 => b"the MIDI 1.0 port is 3",
+        10 => b"the direction is 0",
+        11 => b"the text is not UTF-8",
+        12 => b"a number is above its field's largest, or a code names no choice",
+        13 => b"this kind has no such field",
+        14 => b"there is too little room",
+        _ => b"",
+    }
+}
+
+// Writes the sentence of a refusal's number.
 pub fn refusal_text(number: u32, out: &mut [u8]) -> usize
     ensures answer { result ≡ length (refusal_sentence number) }
     ensures bytes { out.new ≡ as_string (refusal_sentence number) out.old }
 {
-    match number {
-        0 => put_string(out, b"done"),
-        1 => put_string(out, b"there are too few words"),
-        2 => put_string(out, b"the length is not a multiple of four words"),
-        3 => put_string(out, b"there are more than 64 packets"),
-        4 => put_string(out, b"a packet's type is not F"),
-        5 => put_string(out, b"the status is none of the seven"),
-        6 => put_string(out, b"a later packet has another status"),
-        7 => put_string(out, b"a packet's format is not the one due"),
-        8 => put_string(out, b"a later packet has another block number"),
-        9 => put_string(out, b"the MIDI 1.0 port is 3"),
-        10 => put_string(out, b"the direction is 0"),
-        11 => put_string(out, b"the text is not UTF-8"),
-        12 => put_string(
-            out,
-            b"a number is above its field's largest, or a code names no choice",
-        ),
-        13 => put_string(out, b"this kind has no such field"),
-        14 => put_string(out, b"there is too little room"),
-        _ => put_string(out, b""),
-    }
+    put_string(out, sentence_of(number))
 }
 
-fn put_kind_name(kind: Kind, out: &mut [u8]) -> usize
-    ensures answer { result ≡ length (kind_name kind) }
-    ensures bytes { out.new ≡ as_string (kind_name kind) out.old }
+#[tactic(auto, unfolding(crate::specs::Sentences::kind_name))]
+fn name_of(kind: Kind) -> &'static [u8]
+    ensures { result.now ≡ kind_name kind }
 {
     match kind {
-        Kind::EndpointDiscovery => put_string(out, b"endpoint-discovery"),
-        Kind::EndpointInfo => put_string(out, b"endpoint-info"),
-        Kind::DeviceIdentity => put_string(out, b"device-identity"),
-        Kind::EndpointName => put_string(out, b"endpoint-name"),
-        Kind::ProductInstanceId => put_string(out, b"product-instance-id"),
-        Kind::FunctionBlockInfo => put_string(out, b"function-block-info"),
-        Kind::FunctionBlockName => put_string(out, b"function-block-name"),
+        Kind::EndpointDiscovery => b"endpoint-discovery",
+        Kind::EndpointInfo => b"endpoint-info",
+        Kind::DeviceIdentity => b"device-identity",
+        Kind::EndpointName => b"endpoint-name",
+        Kind::ProductInstanceId => b"product-instance-id",
+        Kind::FunctionBlockInfo => b"function-block-info",
+        Kind::FunctionBlockName => b"function-block-name",
     }
 }
 
@@ -70,9 +75,8 @@ pub fn kind_name(status: u32, out: &mut [u8]) -> usize
     ensures answer { result ≡ length (status_name status) }
     ensures bytes { out.new ≡ as_string (status_name status) out.old }
 {
-    let known = table::rows::kind_of(status);
-    match known {
-        Known::Is(kind) => put_kind_name(kind, out),
-        Known::Unknown => put_string(out, b""),
+    match kind_of(status) {
+        Some(kind) => put_string(out, name_of(kind)),
+        None => put_string(out, b""),
     }
 }

@@ -1,4 +1,5 @@
 -- A setting of one kind alone goes by its target. Closed by the cases of the walk; which kinds have a field is computed over the table.
+use Rattle.std.specs.Prelude.{Result, Ok, Err}
 use Prim.Native.Nat.{ℕ, ◌≤◌}
 use mathlib.Core.Path.{◌≡◌, refl, sym, ap, ◌∙◌}
 use mathlib.Core.Bool.{Bool, true, false, not}
@@ -23,7 +24,6 @@ use Rattle.standard.specs.Heads.{packets_of}
 use Rattle.standard.specs.Walk.{walk_of}
 use Rattle.standard.specs.Words.{Outcome, outcome, unchanged, missing, answer_to, after_answer, set_message, set_walked, set_on}
 use Rattle.walking.proofs.Stands.{walk_formed}
-use Rattle.settings.specs.declared.helpers.Target.TheVariants as T
 use Rattle.settings.specs.Target.{own_in, target_of}
 
 -- two tests say the same
@@ -64,54 +64,54 @@ module _ (k : Kind) (s : Setting) (own : owned_by k s ≡ true) (ws : List ℕ) 
   unfolding set_message answer_to
   other-set m d = rw (lacking k s own (kind_in m), d)
 
-  message-refused : (m : Message) {r : Refusal} → own_in (layout k).status m ≡ T.Refused r → set_message m s ws ≡ unchanged r ws
+  message-refused : (m : Message) {r : Refusal} → own_in (layout k).status m ≡ Err r → set_message m s ws ≡ unchanged r ws
   unfolding own_in
   message-refused m {r} e =
       split (differ (layout (kind_in m)).status (layout k).status)
       (λ d. let q : NoSuchField ≡ r = refused_is (rw d at e) in other-set m d ∙ ap (λ (x : Refusal). unchanged x ws) q)
       (λ d. never (packets-refused (rw d at e)))
     where
-      refused_is : {a b : Refusal} → T.Refused a ≡ T.Refused b → a ≡ b
+      refused_is : {a b : Refusal} → ◌≡◌ {A = Result PacketNumber Refusal} (Err a) (Err b) → a ≡ b
       refused_is z = cc
 
-      packets-refused : {n : PacketNumber} {b : Refusal} → T.Packets n ≡ T.Refused b → ◌≡◌ {A = ℕ} 0 1
+      packets-refused : {n : PacketNumber} {b : Refusal} → ◌≡◌ {A = Result PacketNumber Refusal} (Ok n) (Err b) → ◌≡◌ {A = ℕ} 0 1
       packets-refused z = cc
 
-  message_own : (m : Message) {n : PacketNumber} → own_in (layout k).status m ≡ T.Packets n → (kind_in m ≡ k) × (packets_in m ≡ n.0)
+  message_own : (m : Message) {n : PacketNumber} → own_in (layout k).status m ≡ Ok n → (kind_in m ≡ k) × (packets_in m ≡ n.0)
   unfolding own_in
   message_own m {n} e =
       split (differ (layout (kind_in m)).status (layout k).status)
       (λ d. never (refused-packets (rw d at e)))
       (λ d. (one_status (kind_in m) k (differ_false _ _ d), packets_is (rw d at e)))
     where
-      refused-packets : {a : Refusal} {b : PacketNumber} → T.Refused a ≡ T.Packets b → ◌≡◌ {A = ℕ} 0 1
+      refused-packets : {a : Refusal} {b : PacketNumber} → ◌≡◌ {A = Result PacketNumber Refusal} (Err a) (Ok b) → ◌≡◌ {A = ℕ} 0 1
       refused-packets z = cc
 
-      packets_is : {a : ℕ} {b : PacketNumber} → T.Packets (packet a) ≡ T.Packets b → a ≡ b.0
+      packets_is : {a : ℕ} {b : PacketNumber} → ◌≡◌ {A = Result PacketNumber Refusal} (Ok (packet a)) (Ok b) → a ≡ b.0
       packets_is {a} {b} z = let q : packet a ≡ b = cc in ap (λ (x : PacketNumber). x.0) q
 
   -- ---- the two laws of a setting: it is refused by its target, or its kind's own
-  pub set-refused : {r : Refusal} → target_of (layout k).status (walk_of ws 0) ≡ T.Refused r → set_on s ws ≡ unchanged r ws
+  pub set-refused : {r : Refusal} → target_of (layout k).status (walk_of ws 0) ≡ Err r → set_on s ws ≡ unchanged r ws
   unfolding set_on
   set-refused {r} e = go (walk_of ws 0) e
     where
-      same : {a b : Refusal} → T.Refused a ≡ T.Refused b → unchanged a ws ≡ unchanged b ws
+      same : {a b : Refusal} → ◌≡◌ {A = Result PacketNumber Refusal} (Err a) (Err b) → unchanged a ws ≡ unchanged b ws
       same {a} {b} z = let q : a ≡ b = cc in ap (λ (x : Refusal). unchanged x ws) q
 
-      go : (w : Walked) → target_of (layout k).status w ≡ T.Refused r → set_walked w s ws ≡ unchanged r ws
+      go : (w : Walked) → target_of (layout k).status w ≡ Err r → set_walked w s ws ≡ unchanged r ws
       go W.End q = same q
       go (W.Other t size next) q = same q
       go (W.Refused a next) q = same q
       go (W.Message m next) q = message-refused m q
 
-  pub set_own_lem : {n : PacketNumber} → target_of (layout k).status (walk_of ws 0) ≡ T.Packets n → Own k n.0 s ws
+  pub set_own_lem : {n : PacketNumber} → target_of (layout k).status (walk_of ws 0) ≡ Ok n → Own k n.0 s ws
   unfolding set_on set_message
   set_own_lem {n} e = go (walk_of ws 0) refl e
     where
-      no : {a : Refusal} → T.Refused a ≡ T.Packets n → Own k n.0 s ws
+      no : {a : Refusal} → ◌≡◌ {A = Result PacketNumber Refusal} (Err a) (Ok n) → Own k n.0 s ws
       no z = never (cc)
 
-      go : (w : Walked) → walk_of ws 0 ≡ w → target_of (layout k).status w ≡ T.Packets n → Own k n.0 s ws
+      go : (w : Walked) → walk_of ws 0 ≡ w → target_of (layout k).status w ≡ Ok n → Own k n.0 s ws
       go W.End w q = no q
       go (W.Other t size next) w q = no q
       go (W.Refused a next) w q = no q

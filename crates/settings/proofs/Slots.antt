@@ -1,11 +1,12 @@
--- What a setting of a fixed kind leaves, case by case, and which slots the table gives it. Closed by the tests that lead to each case; the table is computed.
+-- What a setting of a fixed kind leaves, and which slots the table gives it. Closed by the target's two laws; the table is computed.
+use Rattle.std.specs.Prelude.{Result, Ok, Err}
 use Prim.Native.Nat.{ℕ, ◌^◌, ◌≤◌}
 use mathlib.Core.Path.{◌≡◌, refl, sym, ap, ◌∙◌}
 use mathlib.Core.Bool.{Bool, true, false, not}
 use mathlib.Core.List.{List, [], ◌∷◌}
 use native.Mathlib.Omega.{arith}
-use lib.Dec.{ltb, leb}
-use borrow.Author.Tests.{lt-ltb, le-ltb, leb-true, leb-false}
+use lib.Dec.{ltb}
+use borrow.Author.Tests.{le-ltb}
 use Rattle.laws.specs.Pick.{pick, both}
 use Rattle.laws.proofs.Pick.{split, both_alone}
 use Rattle.slots.specs.Slots.{Slot, fits, those, bits_within}
@@ -18,57 +19,24 @@ use Rattle.kinds.specs.declared.refusal.Refusal.TheVariants.{NumberTooLarge}
 use Rattle.kinds.specs.Fields.{Setting, field_in, text_in, part_of, same, decided}
 use Rattle.kinds.specs.Layout.{Part, Row, Body, fixed, layout, slots_of, numbers_set}
 use Rattle.kinds.proofs.Rows.{every_kind}
-use Rattle.records.specs.declared.answers.Answer.TheVariants as A
 use Rattle.records.specs.Settings.{is_too_large}
 use Rattle.standard.specs.Heads.{packets_of}
 use Rattle.standard.specs.Walk.{walk_of}
-use Rattle.standard.specs.Words.{outcome, unchanged, missing, answer_to, act_in, set_on}
-use Rattle.fields.specs.Puts.{put_in, put_ins}
+use Rattle.standard.specs.Words.{outcome, missing, answer_to, act_in, set_on}
+use Rattle.fields.specs.Puts.{put_ins}
 use Rattle.table.specs.Places.{slot_at}
 use Rattle.table.specs.Named.{HomeIs}
 use Rattle.numbers.specs.BySlot.{fit_from, put_from}
 use Rattle.fields.proofs.Puts.{ins_put}
 use Rattle.table.specs.declared.names.Home.{Home}
-use Rattle.settings.specs.declared.helpers.Target.{Target}
-use Rattle.settings.specs.declared.helpers.Target.TheVariants as T
 use Rattle.settings.specs.Target.{target_of, settled}
 use Rattle.settings.specs.Fixed.{fitted, place_on, home_on, slot_on, slots_on}
 use Rattle.settings.proofs.Owned.{owned_by, own_has, Own, set-refused, set_own_lem}
-use Rattle.settings.proofs.Settled.{settled-refused, settled_own}
-
--- ---- how the code reaches each case
-module _ (status word at span v : ℕ) (ws : List ℕ) where
-  pub place_refused : {r : Refusal} → target_of status (walk_of ws 0) ≡ T.Refused r → place_on status word at span v ws ≡ unchanged r ws
-  unfolding place_on
-  place_refused e = settled-refused _ ws e
-
-  module _ {n : PacketNumber} (e : target_of status (walk_of ws 0) ≡ T.Packets n) where
-    pub place_large : leb (2 ^ span) v ≡ true → place_on status word at span v ws ≡ unchanged NumberTooLarge ws
-    unfolding place_on
-    place_large h = settled_own _ ws e ∙ rw (le-ltb v (2 ^ span) (leb-true (2 ^ span) v h))
-
-    pub place_done : leb (2 ^ span) v ≡ false → place_on status word at span v ws ≡ outcome A.Done (put_in word at span v ws)
-    unfolding place_on
-    place_done h = settled_own _ ws e ∙ rw (lt-ltb v (2 ^ span) (leb-false (2 ^ span) v h))
 
 -- by the home that the code was given for a slot
 pub home_told : {k : Kind} {i : ℕ} (v : ℕ) (ws : List ℕ) {h : Home} → HomeIs k i h → slot_on k i v ws ≡ home_on h v ws
 unfolding slot_on
-home_told v ws h = rw (h.status, h.word, h.low, h.width)
-
-module _ (k : Kind) (i : ℕ) (xs ws : List ℕ) where
-  pub slots_refused : {r : Refusal} → target_of (layout k).status (walk_of ws 0) ≡ T.Refused r → slots_on k i xs ws ≡ unchanged r ws
-  unfolding slots_on
-  slots_refused e = settled-refused _ ws e
-
-  module _ {n : PacketNumber} (e : target_of (layout k).status (walk_of ws 0) ≡ T.Packets n) where
-    pub slots_large : fit_from (layout k).fields i xs ≡ false → slots_on k i xs ws ≡ unchanged NumberTooLarge ws
-    unfolding slots_on
-    slots_large h = settled_own _ ws e ∙ rw h
-
-    pub slots_done : fit_from (layout k).fields i xs ≡ true → slots_on k i xs ws ≡ outcome A.Done (put_from (layout k).fields i xs ws)
-    unfolding slots_on
-    slots_done h = settled_own _ ws e ∙ rw h
+home_told v ws h = rw (h.kind, h.place.word, h.place.low, h.place.width)
 
 -- ---- what the table says of a setting and a kind, computed
 pub record Facts : Type 0 where
@@ -88,7 +56,7 @@ abbrev pub plain : Body → List (Slot Part) → Facts
 plain b t = record { own = true; narrow = true; body = b; slots = t; text = [] }
 
 -- refusals 11, 3 and 14 cannot come where no text is set
-plain_answer : (r : Row) (room : ℕ) (s : Setting) → missing r s ≡ false → text_in s ≡ [] → 1 ≤ room → answer_to r room s ≡ pick (is_too_large r.fields s) (A.Refused NumberTooLarge) A.Done
+plain_answer : (r : Row) (room : ℕ) (s : Setting) → missing r s ≡ false → text_in s ≡ [] → 1 ≤ room → answer_to r room s ≡ pick (is_too_large r.fields s) (Err NumberTooLarge) (Ok tt)
 unfolding answer_to needed first_bad
 plain_answer r room s m t h = rw (m, t, le-ltb room 1 h)
 
@@ -113,9 +81,9 @@ module _ (k : Kind) (s : Setting) (b : Body) (t : List (Slot Part)) (f : facts k
   unfolding facts
   no_text = ap (λ (x : Facts). x.text) f
 
-  pub answer_is : (ws : List ℕ) (n : ℕ) → Own k n s ws → answer_to (layout k) (packets_of ws) s ≡ pick (not (fits t (numbers_set s))) (A.Refused NumberTooLarge) A.Done
+  pub answer_is : (ws : List ℕ) (n : ℕ) → Own k n s ws → answer_to (layout k) (packets_of ws) s ≡ pick (not (fits t (numbers_set s))) (Err NumberTooLarge) (Ok tt)
   answer_is ws n o =
-      plain_answer (layout k) (packets_of ws) s (own_has k s is_own) no_text (omega (arith, o.some, o.most)) ∙ ap (λ (x : List (Slot Part)). pick (not (fits x (numbers_set s))) (A.Refused NumberTooLarge) A.Done) are_slots
+      plain_answer (layout k) (packets_of ws) s (own_has k s is_own) no_text (omega (arith, o.some, o.most)) ∙ ap (λ (x : List (Slot Part)). pick (not (fits x (numbers_set s))) (Err NumberTooLarge) (Ok tt)) are_slots
 
 -- ---- such a setting of a fixed kind: refused by its target, or for a number, or the numbers are put into its slots
 module _ (k : Kind) (s : Setting) (t : List (Slot Part)) (f : facts k s ≡ plain fixed t) (ws : List ℕ) where
@@ -123,12 +91,12 @@ module _ (k : Kind) (s : Setting) (t : List (Slot Part)) (f : facts k s ≡ plai
   unfolding act_in
   own_fixed n o =
       o.set ∙ split (fits t (numbers_set s))
-      (λ e. rw (answer_is k s fixed t f ws n o, e, is_body k s fixed t f, are_slots k s fixed t f) (ap (outcome A.Done) (sym (ins_put t _ ws (is_narrow k s fixed t f) e))))
+      (λ e. rw (answer_is k s fixed t f ws n o, e, is_body k s fixed t f, are_slots k s fixed t f) (ap (outcome (Ok tt)) (sym (ins_put t _ ws (is_narrow k s fixed t f) e))))
       (λ e. rw (answer_is k s fixed t f ws n o, e))
 
-  set_fixed : (x : Target) → target_of (layout k).status (walk_of ws 0) ≡ x → set_on s ws ≡ settled x (λ n. fitted (fits t (numbers_set s)) (put_ins t (numbers_set s) ws) ws) ws
-  set_fixed (T.Refused r) e = set-refused k s (is_own k s fixed t f) ws e
-  set_fixed (T.Packets n) e = own_fixed n.0 (set_own_lem k s (is_own k s fixed t f) ws e)
+  set_fixed : (x : (Result PacketNumber Refusal)) → target_of (layout k).status (walk_of ws 0) ≡ x → set_on s ws ≡ settled x (λ n. fitted (fits t (numbers_set s)) (put_ins t (numbers_set s) ws) ws) ws
+  set_fixed (Err r) e = set-refused k s (is_own k s fixed t f) ws e
+  set_fixed (Ok n) e = own_fixed n.0 (set_own_lem k s (is_own k s fixed t f) ws e)
 
   -- the numbers in the slots from slot i on
   pub set_slots : (i : ℕ) (xs : List ℕ) → fits t (numbers_set s) ≡ fit_from (layout k).fields i xs → put_ins t (numbers_set s) ws ≡ put_from (layout k).fields i xs ws → set_on s ws ≡ slots_on k i xs ws

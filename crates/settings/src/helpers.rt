@@ -1,4 +1,4 @@
-// Helpers of settings, here and in text_settings, not for callers of the library: what a setting finds at word position 0, a message of its kind or why it is refused.
+// A helper of settings, here and in text_settings, not for callers of the library: what a setting finds at word position 0, a message of its kind or why it is refused.
 ghost use Rattle.std.specs.Prelude.{◌≡◌};
 ghost use Rattle.standard.specs.Walk.{walk_of};
 ghost use Rattle.settings.specs.Target.{own_in, target_of};
@@ -9,37 +9,25 @@ use records::answers::Walked;
 use records::message::{Message, kind_in, packets_in};
 use table::rows::row_of;
 
-#[derive(Clone, Copy)]
-pub enum Target {
-    // The packets of the message, which is of the setting's kind.
-    Packets(PacketNumber),
-    Refused(Refusal),
-}
-
-// What a setting of the kind with this status finds in a message.
+// The packets of a message, if it is of the kind with this status.
 #[tactic(auto, unfolding(crate::specs::Target::own_in))]
-fn own_message(message: Message, status: u32) -> Target
+fn own_message(message: Message, status: u32) -> Result<PacketNumber, Refusal>
     ensures { result ≡ own_in status message }
 {
-    let row = row_of(kind_in(message));
-    if row.status != status {
-        return Target::Refused(Refusal::NoSuchField);
+    if row_of(kind_in(message)).status != status {
+        return Err(Refusal::NoSuchField);
     }
-    Target::Packets(packets_in(message))
+    Ok(packets_in(message))
 }
 
-// What the walk refuses at 0, then 13, for a setting of the kind with this status.
-pub fn find_target(words: &[u32], status: u32) -> Target
+// The packets of the message, or what the walk refuses at 0, then 13. By status and not by kind, since it answers for any number.
+pub fn find_target(words: &[u32], status: u32) -> Result<PacketNumber, Refusal>
     ensures { result ≡ target_of status (walk_of words.now 0) }
 {
     match walking::walk(words, WordNumber(0)) {
-        Walked::End => Target::Refused(Refusal::TooFewWords),
-        Walked::Other {
-            ump_type: _,
-            size: _,
-            next: _,
-        } => Target::Refused(Refusal::WrongType(PacketNumber(0))),
-        Walked::Refused { refusal, next: _ } => Target::Refused(refusal),
-        Walked::Message { message, next: _ } => own_message(message, status),
+        Walked::End => Err(Refusal::TooFewWords),
+        Walked::Other { .. } => Err(Refusal::WrongType(PacketNumber(0))),
+        Walked::Refused { refusal, .. } => Err(refusal),
+        Walked::Message { message, .. } => own_message(message, status),
     }
 }

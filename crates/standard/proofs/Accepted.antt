@@ -1,4 +1,5 @@
 -- What is known of an accepted setting. Proved by following the chain of refusals.
+use Rattle.std.specs.Prelude.{Ok}
 use Prim.Native.Nat.{ℕ, ◌≤◌}
 use mathlib.Core.Path.{◌≡◌}
 use mathlib.Core.Bool.{true}
@@ -13,7 +14,6 @@ use Rattle.utf8.proofs.Valid.{good_valid}
 use Rattle.text.specs.Octets.{needed}
 use Rattle.kinds.specs.Fields.{Setting, field_in, text_in}
 use Rattle.kinds.specs.Layout.{Part, Body, Row, capacity_in, slots_of, numbers_set}
-use Rattle.records.specs.declared.answers.Answer.TheVariants as A
 use Rattle.records.specs.Settings.{is_too_large}
 use Rattle.records.proofs.Records.{refused_done}
 use Rattle.standard.specs.Reading.{is_bad}
@@ -26,12 +26,12 @@ pub record Accepted (b : Body) (t : List (Slot Part)) (room : ℕ) (s : Setting)
   pub most : needed (capacity_in b) (length (text_in s)) ≤ 64
   pub inside : needed (capacity_in b) (length (text_in s)) ≤ room
 
-pub accepted_facts : (r : Row) (room : ℕ) (s : Setting) → answer_to r room s ≡ A.Done → Accepted r.body r.fields room s
+pub accepted_facts : (r : Row) (room : ℕ) (s : Setting) → answer_to r room s ≡ Ok tt → Accepted r.body r.fields room s
 unfolding answer_to
 accepted_facts r room s e =
-    let a = passed (missing r s) _ _ A.Done refused_done e in
-    let b = passed (is_too_large r.fields s) _ _ A.Done refused_done a.1 in
-    let c = passed (is_bad (first_bad (text_in s))) _ _ A.Done refused_done b.1 in
-    let d = passed (ltb 64 (needed_by r s)) _ _ A.Done refused_done c.1 in
-    let q = passed (ltb room (needed_by r s)) _ _ A.Done refused_done d.1 in
+    let a = passed (missing r s) _ _ (Ok tt) refused_done e in
+    let b = passed (is_too_large r.fields s) _ _ (Ok tt) refused_done a.1 in
+    let c = passed (is_bad (first_bad (text_in s))) _ _ (Ok tt) refused_done b.1 in
+    let d = passed (ltb 64 (needed_by r s)) _ _ (Ok tt) refused_done c.1 in
+    let q = passed (ltb room (needed_by r s)) _ _ (Ok tt) refused_done d.1 in
     record { numbers = not-false _ b.0; valid = good_valid _ (not_bad _ c.0); most = ltb-false _ _ d.0; inside = ltb-false _ _ q.0 }

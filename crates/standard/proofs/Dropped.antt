@@ -1,4 +1,5 @@
 -- The walk looks at no word before its position: with the earlier words dropped it answers the same, counted from there. Proved by framing the same packets in both streams.
+use Rattle.std.specs.Prelude.{Result, Ok, Err}
 use Prim.Native.Nat.{ℕ, zero, suc, ◌+◌, ◌-◌, ◌*◌, ◌≤◌, ◌<◌}
 use mathlib.Core.Path.{◌≡◌, refl, ◌∙◌}
 use mathlib.Core.Bool.{Bool, true, false}
@@ -11,8 +12,6 @@ use lib.Dec.{ltb}
 use borrow.Author.Tests.{lt-leb}
 use Rattle.laws.specs.Pick.{pick, differ}
 use Rattle.laws.proofs.Pick.{split, below}
-use Rattle.records.specs.declared.answers.Read.{Read}
-use Rattle.records.specs.declared.answers.Read.TheVariants as R
 use Rattle.records.specs.declared.answers.Walked.{Walked}
 use Rattle.standard.specs.declared.Framed.{Framed}
 use Rattle.standard.specs.declared.Framed.TheVariants.{Whole, Short, Broken}
@@ -21,10 +20,12 @@ use Rattle.standard.specs.Reading.{read_of}
 use Rattle.standard.specs.Walk.{size_of, frame_packet, frame_from, frame_of, walked_of, part, framed_of, other_of, walk_of}
 use Rattle.standard.specs.Live.{later}
 use Rattle.standard.proofs.Next.{walk_end}
+use Rattle.records.specs.declared.message.Message.{Message}
+use Rattle.kinds.specs.declared.refusal.Refusal.{Refusal}
 
-read_later : (d next : ℕ) (r : Read) → later d (walked_of r next) ≡ walked_of r (d + next)
-read_later d next (R.Message m) = refl
-read_later d next (R.Refused r) = refl
+read_later : (d next : ℕ) (r : (Result Message Refusal)) → later d (walked_of r next) ≡ walked_of r (d + next)
+read_later d next (Ok m) = refl
+read_later d next (Err r) = refl
 
 later_picked : (d : ℕ) (t : Bool) (x y x' y' : Walked) → later d x ≡ x' → later d y ≡ y' → later d (pick t x y) ≡ pick t x' y'
 later_picked d true x y x' y' a b = a

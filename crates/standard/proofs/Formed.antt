@@ -1,4 +1,5 @@
 -- Reading accepts exactly the well-formed messages, with exactly their fields and text. Proved by following each chain of refusals, in both directions.
+use Rattle.std.specs.Prelude.{Result, Option, Some, None, Ok, Err}
 use Prim.Native.Nat.{ℕ, ◌%◌, ◌≤◌, ◌<◌}
 use mathlib.Core.Path.{◌≡◌, refl, sym, ap, ◌∙◌, subst}
 use mathlib.Core.Bool.{false}
@@ -14,12 +15,10 @@ use Rattle.utf8.specs.Utf8.{first_bad}
 use Rattle.utf8.proofs.Valid.{good_valid, valid_good}
 use Rattle.text.specs.Octets.{due_format}
 use Rattle.text.specs.Bytes.{text_of}
+use Rattle.kinds.specs.declared.refusal.Refusal.{Refusal}
 use Rattle.kinds.specs.declared.refusal.Refusal.TheVariants.{TooFewWords, NotWholePackets, TooManyPackets}
 use Rattle.kinds.specs.declared.kind.Kind.{Kind}
-use Rattle.kinds.specs.declared.kind.Known.{Known}
-use Rattle.kinds.specs.declared.kind.Known.TheVariants.{Is, Unknown}
 use Rattle.records.specs.declared.message.Message.{Message}
-use Rattle.records.specs.declared.answers.Read.TheVariants as R
 use Rattle.kinds.specs.Choices.{no_port, no_direction}
 use Rattle.kinds.specs.Fields.{Field}
 use Rattle.kinds.specs.Layout.{layout, capacity_of, most_of, kinds, kind_of, parts}
@@ -49,14 +48,14 @@ module _ (m : Message) (t ws : List ℕ) (f : Formed m t ws) where
   good_text : is_bad (first_bad (text_at (kind_in m) ws)) ≡ false
   good_text = rw (count, f.text, valid_good f.valid)
 
-  formed_body : R.Message m ≡ read_body (kind_in m) ws
+  formed_body : Ok m ≡ read_body (kind_in m) ws
   unfolding read_body
   formed_body =
       past _ (holds_port m ws first_fields)
       (past _ (holds_direction m ws first_fields)
-      (past _ good_text (ap R.Message (sym (holds_record m ws first_fields (packets_of ws) count)))))
+      (past _ good_text (ap Ok (sym (holds_record m ws first_fields (packets_of ws) count)))))
 
-  formed_kind : R.Message m ≡ read_kind (kind_in m) ws
+  formed_kind : Ok m ≡ read_kind (kind_in m) ws
   unfolding read_kind
   formed_kind =
       ruled_kept _ _ _ _ (λ p h. eq_differ _ _ (f.status p (inside p h) ∙ sym first_status))
@@ -64,17 +63,17 @@ module _ (m : Message) (t ws : List ℕ) (f : Formed m t ws) where
       (ruled_kept _ _ _ _ (λ p h. eq_differ _ _ (f.format p (inside p h) ∙ ap (λ (n : ℕ). due_format n p) (sym count)))
       (ruled_kept _ _ _ _ (λ p h. same_fields _ _ ws p first_fields (f.fields p (inside p h))) formed_body)))
 
-  pub formed_read : read_of ws ≡ R.Message m
+  pub formed_read : read_of ws ≡ Ok m
   unfolding read_of
   formed_read =
       let w = f.words in
       let s = f.some in
-      let known : Is (kind_in m) ≡ kind_of (status_of (head_at ws 0)) = rw first_status (sym (status_kind (kind_in m))) in
+      let known : Some (kind_in m) ≡ kind_of (status_of (head_at ws 0)) = rw first_status (sym (status_kind (kind_in m))) in
       sym
       (past _ (le-ltb (length ws) 4 (omega arith))
       (past _ (eq_differ (length ws % 4) 0 (omega arith))
       (past _ (le-ltb 64 (packets_of ws) (omega (arith, count, f.most, most_64 (layout (kind_in m)).body)))
-      (ruled_kept _ _ _ _ (λ p h. eq_differ _ _ (f.type p (inside p h))) (formed_kind ∙ ap (λ (k : Known). read_known k ws) known)))))
+      (ruled_kept _ _ _ _ (λ p h. eq_differ _ _ (f.type p (inside p h))) (formed_kind ∙ ap (λ (k : (Option Kind)). read_known k ws) known)))))
 
 -- ---- and nothing else is read
 -- what is known of the packets once reading has accepted them as kind k
@@ -88,19 +87,19 @@ record Seen (k : Kind) (m : Message) (ws : List ℕ) : Type 0 where
   good : is_bad (first_bad (text_at k ws)) ≡ false
   is : message_at k ws ≡ m
 
-message_is : {a b : Message} → R.Message a ≡ R.Message b → a ≡ b
+message_is : {a b : Message} → ◌≡◌ {A = Result Message Refusal} (Ok a) (Ok b) → a ≡ b
 message_is e = cc
 
-kind_seen : (k : Kind) (m : Message) (ws : List ℕ) → read_kind k ws ≡ R.Message m → Seen k m ws
+kind_seen : (k : Kind) (m : Message) (ws : List ℕ) → read_kind k ws ≡ Ok m → Seen k m ws
 unfolding read_kind read_body
 kind_seen k m ws e =
     let a = ruled-message _ _ _ _ m e in
-    let b = passed _ _ _ (R.Message m) refused-message a.1 in
+    let b = passed _ _ _ (Ok m) refused-message a.1 in
     let c = ruled-message _ _ _ _ m b.1 in
     let d = ruled-message _ _ _ _ m c.1 in
-    let p = passed _ _ _ (R.Message m) refused-message d.1 in
-    let q = passed _ _ _ (R.Message m) refused-message p.1 in
-    let u = passed _ _ _ (R.Message m) refused-message q.1 in
+    let p = passed _ _ _ (Ok m) refused-message d.1 in
+    let q = passed _ _ _ (Ok m) refused-message p.1 in
+    let u = passed _ _ _ (Ok m) refused-message q.1 in
     record { most = ltb-false _ _ b.0; status = a.0; format = c.0; field = d.0; port = p.0; direction = q.0; good = u.0; is = message_is u.1 }
 
 -- the accepted kind has the status of the first packet
@@ -109,16 +108,16 @@ record Known-seen (m : Message) (ws : List ℕ) : Type 0 where
   status : status_of (head_at ws 0) ≡ (layout kind).status
   seen : Seen kind m ws
 
-known_seen : (n : Known) (m : Message) (ws : List ℕ) → kind_of (status_of (head_at ws 0)) ≡ n → read_known n ws ≡ R.Message m → Known-seen m ws
-known_seen Unknown m ws q e = absurd (refused-message e)
-known_seen (Is k) m ws q e = record { kind = k; status = among_status kinds _ k q; seen = kind_seen k m ws e }
+known_seen : (n : (Option Kind)) (m : Message) (ws : List ℕ) → kind_of (status_of (head_at ws 0)) ≡ n → read_known n ws ≡ Ok m → Known-seen m ws
+known_seen None m ws q e = absurd (refused-message e)
+known_seen (Some k) m ws q e = record { kind = k; status = among_status kinds _ k q; seen = kind_seen k m ws e }
 
-pub read_formed : (ws : List ℕ) (m : Message) → read_of ws ≡ R.Message m → Formed m (text_at (kind_in m) ws) ws
+pub read_formed : (ws : List ℕ) (m : Message) → read_of ws ≡ Ok m → Formed m (text_at (kind_in m) ws) ws
 unfolding read_of
 read_formed ws m e =
-    let a = passed (ltb (length ws) 4) (R.Refused TooFewWords) _ (R.Message m) refused-message e in
-    let b = passed (differ (length ws % 4) 0) (R.Refused NotWholePackets) _ (R.Message m) refused-message a.1 in
-    let c = passed (ltb 64 (packets_of ws)) (R.Refused TooManyPackets) _ (R.Message m) refused-message b.1 in
+    let a = passed (ltb (length ws) 4) (Err TooFewWords) _ (Ok m) refused-message e in
+    let b = passed (differ (length ws % 4) 0) (Err NotWholePackets) _ (Ok m) refused-message a.1 in
+    let c = passed (ltb 64 (packets_of ws)) (Err TooManyPackets) _ (Ok m) refused-message b.1 in
     let d = ruled-message _ _ _ _ m c.1 in
     let s = known_seen _ m ws refl d.1 in
     let k = s.kind in

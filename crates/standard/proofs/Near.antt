@@ -1,4 +1,5 @@
 -- The place of any refusal of the walk is at most 64. Proved by following the cases of reading and framing.
+use Rattle.std.specs.Prelude.{Option, Some, None, Result, Ok, Err}
 use Prim.Native.Nat.{ℕ, zero, suc, ◌+◌, ◌-◌, ◌%◌, ◌≤◌}
 use mathlib.Core.Path.{◌≡◌, refl}
 use mathlib.Core.Bool.{Bool, false}
@@ -16,14 +17,10 @@ use Rattle.utf8.specs.Utf8.{first_bad}
 use Rattle.kinds.specs.declared.refusal.Refusal.{Refusal}
 use Rattle.kinds.specs.declared.refusal.Refusal.TheVariants.{TooFewWords, NotWholePackets, TooManyPackets, WrongType, StatusDiffers, WrongFormat, BlockNumberDiffers, BadPort, BadDirection, NotUtf8}
 use Rattle.kinds.specs.declared.kind.Kind.{Kind}
-use Rattle.kinds.specs.declared.kind.Known.{Known}
-use Rattle.kinds.specs.declared.kind.Known.TheVariants.{Is, Unknown}
 use Rattle.kinds.specs.Choices.{no_port, no_direction}
 use Rattle.kinds.specs.Fields.{Field}
 use Rattle.kinds.specs.Layout.{layout, most_of, kind_of}
 use Rattle.kinds.specs.Refusals.{refusal_place}
-use Rattle.records.specs.declared.answers.Read.{Read}
-use Rattle.records.specs.declared.answers.Read.TheVariants as R
 use Rattle.standard.specs.declared.Step.{Step}
 use Rattle.standard.specs.declared.Step.TheVariants.{Ends, Goes, Wrong}
 use Rattle.standard.specs.declared.Framed.{Framed}
@@ -31,17 +28,18 @@ use Rattle.standard.specs.declared.Framed.TheVariants.{Whole, Short, Broken}
 use Rattle.standard.specs.Heads.{type_of, format_of, status_of, stream_type, packets_of, head_at}
 use Rattle.standard.specs.Reading.{ruled, other_type, other_status, other_format, other_field, code_at, text_at, message_at, is_bad, read_body, read_kind, read_known, read_of}
 use Rattle.standard.specs.Walk.{step_of, after_step, frame_packet, frame_from, frame_of}
+use Rattle.records.specs.declared.message.Message.{Message}
 
 -- ---- reading
-abbrev pub Near : Read → Type 0
-Near (R.Message m) = Unit
-Near (R.Refused r) = refusal_place r ≤ 64
+abbrev pub Near : Result Message Refusal → Type 0
+Near (Ok m) = Unit
+Near (Err r) = refusal_place r ≤ 64
 
 -- a test whose refusal has no place, and a rule whose refusal names a packet
-tested : (t : Bool) (r : Refusal) (rest : Read) → refusal_place r ≤ 64 → (t ≡ false → Near rest) → Near (pick t (R.Refused r) rest)
-tested t r rest h g = picked Near t (R.Refused r) rest (λ e. h) g
+tested : (t : Bool) (r : Refusal) (rest : (Result Message Refusal)) → refusal_place r ≤ 64 → (t ≡ false → Near rest) → Near (pick t (Err r) rest)
+tested t r rest h g = picked Near t (Err r) rest (λ e. h) g
 
-ruled_near : (broken : ℕ → Bool) (n : ℕ) (why : PacketNumber → Refusal) (rest : Read) → n ≤ 64 → ((p : PacketNumber) → refusal_place (why p) ≡ p.0) → Near rest → Near (ruled broken n why rest)
+ruled_near : (broken : ℕ → Bool) (n : ℕ) (why : PacketNumber → Refusal) (rest : (Result Message Refusal)) → n ≤ 64 → ((p : PacketNumber) → refusal_place (why p) ≡ p.0) → Near rest → Near (ruled broken n why rest)
 unfolding ruled
 ruled_near broken n why rest h e r =
     picked Near (ltb (first broken n) n) _ _ (λ t. rw e (omega (arith, (first_is broken n).high))) (λ t. r)
@@ -51,7 +49,7 @@ module _ (ws : List ℕ) where
   unfolding read_body
   body_near k =
       tested (eqb (code_at k ws Field.midi1_port) no_port) BadPort _ (lit≤ tt)
-      (λ t. tested (eqb (code_at k ws Field.direction) no_direction) BadDirection _ (lit≤ tt) (λ u. tested (is_bad (first_bad (text_at k ws))) NotUtf8 (R.Message (message_at k ws)) (lit≤ tt) (λ v. tt)))
+      (λ t. tested (eqb (code_at k ws Field.direction) no_direction) BadDirection _ (lit≤ tt) (λ u. tested (is_bad (first_bad (text_at k ws))) NotUtf8 (Ok (message_at k ws)) (lit≤ tt) (λ v. tt)))
 
   module _ (h : packets_of ws ≤ 64) where
     kind_near : (k : Kind) → Near (read_kind k ws)
@@ -61,9 +59,9 @@ module _ (ws : List ℕ) where
         (tested (ltb (most_of k) (packets_of ws)) _ _ (lit≤ tt)
         (λ t. ruled_near (other_format ws) (packets_of ws) WrongFormat _ h (λ p. refl) (ruled_near (other_field (layout k).fields ws) (packets_of ws) BlockNumberDiffers _ h (λ p. refl) (body_near k))))
 
-    known_near : (k : Known) → Near (read_known k ws)
-    known_near Unknown = lit≤ tt
-    known_near (Is k) = kind_near k
+    known_near : (k : (Option Kind)) → Near (read_known k ws)
+    known_near None = lit≤ tt
+    known_near (Some k) = kind_near k
 
   pub read_near : Near (read_of ws)
   unfolding read_of

@@ -1,4 +1,5 @@
 -- The next position is larger than the given one, and at most the length. By induction on the packets that may still come.
+use Rattle.std.specs.Prelude.{Result, Ok, Err}
 use Prim.Native.Nat.{ℕ, zero, suc, ◌+◌, ◌-◌, ◌*◌, ◌≤◌, ◌<◌}
 use mathlib.Core.Path.{◌≡◌, refl, sym}
 use mathlib.Core.List.{List}
@@ -10,8 +11,6 @@ use Rattle.laws.specs.Pick.{differ}
 use Rattle.laws.proofs.Lists.{every_at}
 use Rattle.laws.proofs.Pick.{picked, here}
 use Rattle.counts.specs.declared.PacketNumber.{PacketNumber}
-use Rattle.records.specs.declared.answers.Read.{Read}
-use Rattle.records.specs.declared.answers.Read.TheVariants as R
 use Rattle.records.specs.declared.answers.Walked.TheVariants as W
 use Rattle.standard.specs.declared.Step.{Step}
 use Rattle.standard.specs.declared.Step.TheVariants.{Ends, Goes, Wrong}
@@ -20,6 +19,8 @@ use Rattle.standard.specs.declared.Framed.TheVariants.{Whole, Short, Broken}
 use Rattle.standard.specs.Heads.{type_of, format_of, status_of, stream_type}
 use Rattle.standard.specs.Reading.{read_of}
 use Rattle.standard.specs.Walk.{sizes, size_of, step_of, after_step, frame_packet, frame_from, frame_of, walked_of, part, framed_of, other_of, walk_of, Onward}
+use Rattle.records.specs.declared.message.Message.{Message}
+use Rattle.kinds.specs.declared.refusal.Refusal.{Refusal}
 
 -- ---- framing
 -- the packets of a framed message lie within the words; a broken message has at least one whole packet
@@ -65,9 +66,9 @@ pub size_most : (t : ℕ) → size_of t ≤ 4
 unfolding size_of
 size_most t = leb→le _ _ (every_at (λ n. leb n 4) sizes 4 tt tt t)
 
-read_onward : (r : Read) (pos end next : ℕ) → pos < next → next ≤ end → Onward pos end (walked_of r next)
-read_onward (R.Message m) pos end next a b = (a, b)
-read_onward (R.Refused r) pos end next a b = (a, b)
+read_onward : (r : (Result Message Refusal)) (pos end next : ℕ) → pos < next → next ≤ end → Onward pos end (walked_of r next)
+read_onward (Ok m) pos end next a b = (a, b)
+read_onward (Err r) pos end next a b = (a, b)
 
 framed_onward : (f : Framed) (ws : List ℕ) (pos : ℕ) → pos < length ws → Room ws pos f → Onward pos (length ws) (framed_of f ws pos)
 unfolding framed_of

@@ -1,4 +1,5 @@
 -- An answer of the walk that is not final is the end, or refusal 1 with the length as its next position; and both can change. Proved by following the cases of reading a framed message, and by computation.
+use Rattle.std.specs.Prelude.{Option, Some, None, Result, Ok, Err}
 use Prim.Native.Nat.{ℕ, zero, suc, ◌+◌, ◌-◌, ◌*◌, ◌%◌, ◌≤◌}
 use mathlib.Core.Path.{◌≡◌, refl, sym, ◌∙◌}
 use mathlib.Core.Bool.{Bool, true, false}
@@ -20,15 +21,11 @@ use Rattle.text.specs.Bytes.{text_byte, all_bytes}
 use Rattle.kinds.specs.declared.refusal.Refusal.{Refusal}
 use Rattle.kinds.specs.declared.refusal.Refusal.TheVariants.{TooFewWords, NotWholePackets, TooManyPackets, WrongType, StatusDiffers, WrongFormat, BlockNumberDiffers, BadPort, BadDirection, NotUtf8}
 use Rattle.kinds.specs.declared.kind.Kind.{Kind}
-use Rattle.kinds.specs.declared.kind.Known.{Known}
-use Rattle.kinds.specs.declared.kind.Known.TheVariants.{Is, Unknown}
 use Rattle.kinds.specs.Choices.{no_port, no_direction}
 use Rattle.kinds.specs.Fields.{Field, decided, same, start}
 use Rattle.kinds.specs.Layout.{layout, most_of, kind_of, among, held, values_in}
 use Rattle.kinds.specs.Refusals.{refusal_number}
 use Rattle.records.specs.declared.message.Message.TheVariants as M
-use Rattle.records.specs.declared.answers.Read.{Read}
-use Rattle.records.specs.declared.answers.Read.TheVariants as R
 use Rattle.records.specs.declared.answers.Walked.{Walked}
 use Rattle.records.specs.declared.answers.Walked.TheVariants as W
 use Rattle.records.specs.Records.{record_of}
@@ -41,15 +38,16 @@ use Rattle.standard.specs.Reading.{ruled, other_type, other_status, other_format
 use Rattle.standard.specs.Walk.{size_of, step_of, after_step, frame_packet, frame_from, frame_of, walked_of, part, framed_of, other_of, walk_of}
 use Rattle.standard.specs.Live.{final}
 use Rattle.standard.proofs.Framing.{framed_heads}
+use Rattle.records.specs.declared.message.Message.{Message}
 
 -- ---- reading at least four words gives no refusal 1
-abbrev Long : Read → Type 0
+abbrev Long : Result Message Refusal → Type 0
 Long r = (next : ℕ) → final (walked_of r next) ≡ true
 
-tested : (t : Bool) (r : Refusal) (rest : Read) → differ (refusal_number r) 1 ≡ true → Long rest → Long (pick t (R.Refused r) rest)
-tested t r rest e l = picked Long t (R.Refused r) rest (λ q next. e) (λ q. l)
+tested : (t : Bool) (r : Refusal) (rest : (Result Message Refusal)) → differ (refusal_number r) 1 ≡ true → Long rest → Long (pick t (Err r) rest)
+tested t r rest e l = picked Long t (Err r) rest (λ q next. e) (λ q. l)
 
-ruled_long : (broken : ℕ → Bool) (n : ℕ) (why : PacketNumber → Refusal) (rest : Read) → ((p : PacketNumber) → differ (refusal_number (why p)) 1 ≡ true) → Long rest → Long (ruled broken n why rest)
+ruled_long : (broken : ℕ → Bool) (n : ℕ) (why : PacketNumber → Refusal) (rest : (Result Message Refusal)) → ((p : PacketNumber) → differ (refusal_number (why p)) 1 ≡ true) → Long rest → Long (ruled broken n why rest)
 unfolding ruled
 ruled_long broken n why rest e l = tested (ltb (first broken n) n) _ rest (e _) l
 
@@ -59,12 +57,12 @@ module _ (ws : List ℕ) where
   body_long k =
       tested (eqb (code_at k ws Field.midi1_port) no_port) BadPort _ refl
       (tested (eqb (code_at k ws Field.direction) no_direction) BadDirection _ refl
-      (tested (is_bad (first_bad (text_at k ws))) NotUtf8 (R.Message (message_at k ws)) refl (λ next. refl)))
+      (tested (is_bad (first_bad (text_at k ws))) NotUtf8 (Ok (message_at k ws)) refl (λ next. refl)))
 
-  known_long : (k : Known) → Long (read_known k ws)
+  known_long : (k : (Option Kind)) → Long (read_known k ws)
   unfolding read_kind
-  known_long Unknown = λ next. refl
-  known_long (Is k) =
+  known_long None = λ next. refl
+  known_long (Some k) =
       ruled_long (other_status ws) (packets_of ws) StatusDiffers _ (λ p. refl)
       (tested (ltb (most_of k) (packets_of ws)) (WrongFormat (packet 1)) _ refl
       (ruled_long (other_format ws) (packets_of ws) WrongFormat _ (λ p. refl)

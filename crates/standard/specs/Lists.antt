@@ -1,12 +1,11 @@
 -- LISTS OF SETTINGS on words, each applied to the result of the one before.
-use Rattle.std.specs.Prelude.{ℕ, Bool, true, false, List, [], ◌∷◌}
+use Rattle.std.specs.Prelude.{ℕ, Bool, true, false, List, [], ◌∷◌, Result, Ok, Err}
 use Rattle.laws.specs.Pick.{pick, both}
 use Rattle.kinds.specs.declared.kind.Kind.{Kind}
-use Rattle.records.specs.declared.answers.Answer.{Answer}
-use Rattle.records.specs.declared.answers.Answer.TheVariants as A
 use Rattle.kinds.specs.Fields.{Field, Setting, field_in, value_in, same}
 use Rattle.kinds.specs.Layout.{layout}
 use Rattle.standard.specs.Words.{set_on, answer_to}
+use Rattle.kinds.specs.declared.refusal.Refusal.{Refusal}
 
 -- the words after a list of settings
 unfoldable pub set_all : List Setting → List ℕ → List ℕ
@@ -16,9 +15,9 @@ set_all (s ∷ ss) ws = set_all ss (set_on s ws).words
 -- a setting with its answer
 pub record SettingAnswer : Type 0 where
   pub setting : Setting
-  pub answer : Answer
+  pub answer : Result (Unit {0}) Refusal
 
-abbrev pub with_answer : Setting → Answer → SettingAnswer
+abbrev pub with_answer : Setting → Result (Unit {0}) Refusal → SettingAnswer
 with_answer s a = record { setting = s; answer = a }
 
 -- each setting of a list with its answer
@@ -27,9 +26,9 @@ answer_all [] ws = []
 answer_all (s ∷ ss) ws = with_answer s (set_on s ws).answer ∷ answer_all ss (set_on s ws).words
 
 -- the setting was accepted
-abbrev pub is_done : Answer → Bool
-is_done A.Done = true
-is_done (A.Refused r) = false
+abbrev pub is_done : Result (Unit {0}) Refusal → Bool
+is_done (Ok tt) = true
+is_done (Err r) = false
 
 -- a field's value after a setting: the new one if the setting is of this field and accepted
 abbrev pub value_after : Kind → ℕ → Setting → Field → List ℕ → List ℕ

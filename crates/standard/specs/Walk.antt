@@ -1,11 +1,9 @@
 -- THE WALK: what is at a word position of a stream.
-use Rattle.std.specs.Prelude.{ℕ, zero, suc, ◌+◌, ◌-◌, ◌*◌, ◌≤◌, ◌<◌, List, [], ◌∷◌, length, get_or, take, drop, ltb, leb, eqb}
+use Rattle.std.specs.Prelude.{ℕ, zero, suc, ◌+◌, ◌-◌, ◌*◌, ◌≤◌, ◌<◌, List, [], ◌∷◌, length, get_or, take, drop, ltb, leb, eqb, Result, Ok, Err}
 use Rattle.laws.specs.Pick.{pick, differ}
 use Rattle.counts.specs.Counts.{packet, word}
 use Rattle.counts.specs.declared.WordNumber.{WordNumber}
 use Rattle.kinds.specs.declared.refusal.Refusal.TheVariants.{TooFewWords, TooManyPackets, WrongType, StatusDiffers, WrongFormat}
-use Rattle.records.specs.declared.answers.Read.{Read}
-use Rattle.records.specs.declared.answers.Read.TheVariants as R
 use Rattle.records.specs.declared.answers.Walked.{Walked}
 use Rattle.records.specs.declared.answers.Walked.TheVariants as W
 use Rattle.standard.specs.declared.Step.{Step}
@@ -14,6 +12,8 @@ use Rattle.standard.specs.declared.Framed.{Framed}
 use Rattle.standard.specs.declared.Framed.TheVariants.{Whole, Short, Broken}
 use Rattle.standard.specs.Heads.{type_of, format_of, status_of, stream_type}
 use Rattle.standard.specs.Reading.{read_of}
+use Rattle.records.specs.declared.message.Message.{Message}
+use Rattle.kinds.specs.declared.refusal.Refusal.{Refusal}
 
 -- ---- sizes
 -- the words of a packet of each type, 0 to F in order, as M2-104-UM lists them
@@ -55,9 +55,9 @@ frame_of ws pos = frame_from 64 ws (status_of (get_or ws pos 0)) 0 pos
 
 -- ---- the answer of the walk
 -- a framed message is read; the next position is the word after it
-abbrev pub walked_of : Read → ℕ → Walked
-walked_of (R.Message m) next = W.Message m (word next)
-walked_of (R.Refused r) next = W.Refused r (word next)
+abbrev pub walked_of : Result Message Refusal → ℕ → Walked
+walked_of (Ok m) next = W.Message m (word next)
+walked_of (Err r) next = W.Refused r (word next)
 
 -- the words of the n packets at a position
 abbrev pub part : List ℕ → ℕ → ℕ → List ℕ

@@ -1,5 +1,5 @@
 -- FRESH MESSAGES, SETTINGS ON WORDS, WRITING A RECORD: the answer, and the whole buffer afterwards.
-use Rattle.std.specs.Prelude.{ℕ, Bool, false, not, List, [], ◌∷◌, length, get_or, ltb, eqb}
+use Rattle.std.specs.Prelude.{ℕ, Bool, false, not, List, [], ◌∷◌, length, get_or, ltb, eqb, Option, Some, None, Result, Ok, Err}
 use Rattle.laws.specs.Pick.{pick}
 use Rattle.counts.specs.Counts.{packet}
 use Rattle.slots.specs.Slots.{Slot, put_all, fits}
@@ -9,13 +9,9 @@ use Rattle.text.specs.Written.{written, blank, each_first}
 use Rattle.kinds.specs.declared.refusal.Refusal.{Refusal}
 use Rattle.kinds.specs.declared.refusal.Refusal.TheVariants.{TooFewWords, TooManyPackets, WrongType, UnknownStatus, NotUtf8, NumberTooLarge, NoSuchField, NoRoom}
 use Rattle.kinds.specs.declared.kind.Kind.{Kind}
-use Rattle.kinds.specs.declared.kind.Known.{Known}
-use Rattle.kinds.specs.declared.kind.Known.TheVariants.{Is, Unknown}
 use Rattle.records.specs.declared.message.Message.{Message}
 use Rattle.records.specs.declared.answers.Walked.{Walked}
 use Rattle.records.specs.declared.answers.Walked.TheVariants as W
-use Rattle.records.specs.declared.answers.Answer.{Answer}
-use Rattle.records.specs.declared.answers.Answer.TheVariants as A
 use Rattle.kinds.specs.Fields.{Field, Setting, field_in, text_in, start}
 use Rattle.kinds.specs.Layout.{Part, Body, fixed, texts, Row, layout, capacity_in, kind_of, has_text, slots_of, is_text, parts, values_in, numbers_set}
 use Rattle.records.specs.Records.{kind_in, packets_in, values_of}
@@ -26,15 +22,15 @@ use Rattle.standard.specs.Walk.{walk_of}
 
 -- the outcome of a call that changes a lent buffer: its answer, and the words afterwards
 pub record Outcome : Type 0 where
-  pub answer : Answer
+  pub answer : Result (Unit {0}) Refusal
   pub words : List ℕ
 
-abbrev pub outcome : Answer → List ℕ → Outcome
+abbrev pub outcome : Result (Unit {0}) Refusal → List ℕ → Outcome
 outcome a ws = record { answer = a; words = ws }
 
 -- refused: no word is changed
 abbrev pub unchanged : Refusal → List ℕ → Outcome
-unchanged r ws = outcome (A.Refused r) ws
+unchanged r ws = outcome (Err r) ws
 
 -- the buffer has no whole packet
 abbrev pub no_packet : List ℕ → Bool
@@ -46,9 +42,9 @@ unfoldable pub fresh : Kind → List ℕ → List ℕ
 fresh k ws = put_all (layout k).fields (parts start) (blank (head_word (layout k).status 0) ws)
 
 -- refusal 5, then 14
-abbrev fresh_known : Known → List ℕ → Outcome
-fresh_known Unknown ws = unchanged UnknownStatus ws
-fresh_known (Is k) ws = pick (no_packet ws) (unchanged NoRoom ws) (outcome A.Done (fresh k ws))
+abbrev fresh_known : Option Kind → List ℕ → Outcome
+fresh_known None ws = unchanged UnknownStatus ws
+fresh_known (Some k) ws = pick (no_packet ws) (unchanged NoRoom ws) (outcome (Ok tt) (fresh k ws))
 
 -- A FRESH MESSAGE of a status
 unfoldable pub fresh_on : ℕ → List ℕ → Outcome
@@ -86,14 +82,14 @@ abbrev pub needed_by : Row → Setting → ℕ
 needed_by r s = needed (capacity_in r.body) (length (text_in s))
 
 -- refusals 13, 12, 11, 3, 14; they depend only on the row, the buffer's whole packets and the setting
-unfoldable pub answer_to : Row → ℕ → Setting → Answer
+unfoldable pub answer_to : Row → ℕ → Setting → Result (Unit {0}) Refusal
 answer_to r room s =
-    pick (missing r s) (A.Refused NoSuchField)
-    (pick (is_too_large r.fields s) (A.Refused NumberTooLarge)
-    (pick (is_bad (first_bad (text_in s))) (A.Refused NotUtf8)
-    (pick (ltb 64 (needed_by r s)) (A.Refused TooManyPackets)
-    (pick (ltb room (needed_by r s)) (A.Refused NoRoom)
-    A.Done))))
+    pick (missing r s) (Err NoSuchField)
+    (pick (is_too_large r.fields s) (Err NumberTooLarge)
+    (pick (is_bad (first_bad (text_in s))) (Err NotUtf8)
+    (pick (ltb 64 (needed_by r s)) (Err TooManyPackets)
+    (pick (ltb room (needed_by r s)) (Err NoRoom)
+    (Ok tt)))))
 
 -- the field's slots put into a packet
 abbrev put_setting : Row → Setting → List ℕ → List ℕ
@@ -107,11 +103,11 @@ act_in (texts t from) r n s ws =
     (each_first n (put_word (slots_of (field_in s) r.fields) (numbers_set s)) ws)
 
 -- the words after a setting with this answer
-abbrev pub after_answer : Answer → Row → ℕ → Setting → List ℕ → List ℕ
-after_answer A.Done r n s ws = act_in r.body r n s ws
-after_answer (A.Refused why) r n s ws = ws
+abbrev pub after_answer : Result (Unit {0}) Refusal → Row → ℕ → Setting → List ℕ → List ℕ
+after_answer (Ok tt) r n s ws = act_in r.body r n s ws
+after_answer (Err why) r n s ws = ws
 
-abbrev outcome_of : Answer → Row → ℕ → Setting → List ℕ → Outcome
+abbrev outcome_of : Result (Unit {0}) Refusal → Row → ℕ → Setting → List ℕ → Outcome
 outcome_of a r n s ws = outcome a (after_answer a r n s ws)
 
 -- a setting on the message m at position 0
@@ -137,4 +133,4 @@ write_on m ws =
     pick (has_text (layout (kind_in m)).body) (unchanged NoSuchField ws)
     (pick (not (fits (layout (kind_in m)).fields (parts (values_of m)))) (unchanged NumberTooLarge ws)
     (pick (no_packet ws) (unchanged NoRoom ws)
-    (outcome A.Done (encode (kind_in m) ws (values_of m)))))
+    (outcome (Ok tt) (encode (kind_in m) ws (values_of m)))))

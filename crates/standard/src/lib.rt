@@ -12,7 +12,7 @@ pub enum Step {
     Wrong,
 }
 
-// The packets of a message in a stream: how many, or why there is no message.
+// The packets of a message in a stream: how many, or why there is no message. No `Result`: the walk goes on elsewhere after `Short` than after `Broken`.
 #[derive(Clone, Copy)]
 pub enum Framed {
     Whole(PacketNumber),

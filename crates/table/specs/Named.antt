@@ -12,7 +12,7 @@ use Rattle.table.specs.declared.names.PairName.{PairName}
 use Rattle.table.specs.declared.names.PairName.TheVariants as P
 use Rattle.table.specs.declared.names.FieldAt.{FieldAt}
 use Rattle.table.specs.declared.names.Home.{Home}
-use Rattle.table.specs.Places.{slot_at}
+use Rattle.table.specs.Places.{slot_at, PlaceIs}
 
 abbrev pub flag_named : FlagName → Flag
 flag_named F.RequestEndpointInfo = Flag.request_endpoint_info
@@ -44,45 +44,43 @@ pair_named P.DeviceFamily = Pair.device_family
 pair_named P.DeviceFamilyModelNumber = Pair.device_family_model_number
 
 -- ---- the kind that has the field, and its first slot: the laws of settings hold each to THE TABLE
-abbrev field : Kind → ℕ → FieldAt
-field k slot = record { 0 = k; 1 = slot }
+abbrev pub field_at : Kind → ℕ → FieldAt
+field_at k slot = record { kind = k; slot = slot }
 
 abbrev pub flag_at : FlagName → FieldAt
-flag_at F.RequestEndpointInfo = field K.EndpointDiscovery 2
-flag_at F.RequestDeviceIdentity = field K.EndpointDiscovery 3
-flag_at F.RequestEndpointName = field K.EndpointDiscovery 4
-flag_at F.RequestProductInstanceId = field K.EndpointDiscovery 5
-flag_at F.RequestStreamConfiguration = field K.EndpointDiscovery 6
-flag_at F.StaticFunctionBlocks = field K.EndpointInfo 2
-flag_at F.SupportsMidi2Protocol = field K.EndpointInfo 3
-flag_at F.SupportsMidi1Protocol = field K.EndpointInfo 4
-flag_at F.SupportsReceivingJrTimestamps = field K.EndpointInfo 5
-flag_at F.SupportsSendingJrTimestamps = field K.EndpointInfo 6
-flag_at F.Active = field K.FunctionBlockInfo 0
+flag_at F.RequestEndpointInfo = field_at K.EndpointDiscovery 2
+flag_at F.RequestDeviceIdentity = field_at K.EndpointDiscovery 3
+flag_at F.RequestEndpointName = field_at K.EndpointDiscovery 4
+flag_at F.RequestProductInstanceId = field_at K.EndpointDiscovery 5
+flag_at F.RequestStreamConfiguration = field_at K.EndpointDiscovery 6
+flag_at F.StaticFunctionBlocks = field_at K.EndpointInfo 2
+flag_at F.SupportsMidi2Protocol = field_at K.EndpointInfo 3
+flag_at F.SupportsMidi1Protocol = field_at K.EndpointInfo 4
+flag_at F.SupportsReceivingJrTimestamps = field_at K.EndpointInfo 5
+flag_at F.SupportsSendingJrTimestamps = field_at K.EndpointInfo 6
+flag_at F.Active = field_at K.FunctionBlockInfo 0
 
 abbrev pub number_at : NumberName → FieldAt
-number_at N.DiscoveryVersionMajor = field K.EndpointDiscovery 0
-number_at N.DiscoveryVersionMinor = field K.EndpointDiscovery 1
-number_at N.InfoVersionMajor = field K.EndpointInfo 0
-number_at N.InfoVersionMinor = field K.EndpointInfo 1
-number_at N.NumberOfFunctionBlocks = field K.EndpointInfo 7
-number_at N.FunctionBlockNumber = field K.FunctionBlockInfo 1
-number_at N.FirstGroup = field K.FunctionBlockInfo 5
-number_at N.NumberOfGroupsSpanned = field K.FunctionBlockInfo 6
-number_at N.MidiCiVersion = field K.FunctionBlockInfo 7
-number_at N.MaxNumberOfMidiCiStreams = field K.FunctionBlockInfo 8
+number_at N.DiscoveryVersionMajor = field_at K.EndpointDiscovery 0
+number_at N.DiscoveryVersionMinor = field_at K.EndpointDiscovery 1
+number_at N.InfoVersionMajor = field_at K.EndpointInfo 0
+number_at N.InfoVersionMinor = field_at K.EndpointInfo 1
+number_at N.NumberOfFunctionBlocks = field_at K.EndpointInfo 7
+number_at N.FunctionBlockNumber = field_at K.FunctionBlockInfo 1
+number_at N.FirstGroup = field_at K.FunctionBlockInfo 5
+number_at N.NumberOfGroupsSpanned = field_at K.FunctionBlockInfo 6
+number_at N.MidiCiVersion = field_at K.FunctionBlockInfo 7
+number_at N.MaxNumberOfMidiCiStreams = field_at K.FunctionBlockInfo 8
 
 abbrev pub pair_at : PairName → FieldAt
-pair_at P.DeviceFamily = field K.DeviceIdentity 3
-pair_at P.DeviceFamilyModelNumber = field K.DeviceIdentity 5
+pair_at P.DeviceFamily = field_at K.DeviceIdentity 3
+pair_at P.DeviceFamilyModelNumber = field_at K.DeviceIdentity 5
 
 pub record FieldIs (a r : FieldAt) : Type 0 where
-  pub kind : r.0 ≡ a.0
-  pub slot : r.1 ≡ a.1
+  pub kind : r.kind ≡ a.kind
+  pub slot : r.slot ≡ a.slot
 
 -- where the code says that slot i of a kind stands
 pub record HomeIs (k : Kind) (i : ℕ) (r : Home) : Type 0 where
-  pub status : r.status ≡ (layout k).status
-  pub word : r.word ≡ (slot_at (layout k).fields i).word
-  pub low : r.low ≡ (slot_at (layout k).fields i).at
-  pub width : r.width ≡ (slot_at (layout k).fields i).span
+  pub kind : r.kind ≡ k
+  pub place : PlaceIs (slot_at (layout k).fields i) r.place

@@ -2,6 +2,7 @@
 use Rattle.std.specs.Prelude.{ℕ, ◌≡◌, List, get_or}
 use Rattle.laws.specs.Lists.{each}
 use Rattle.slots.specs.Slots.{Slot}
+use Rattle.counts.specs.Counts.{word}
 use Rattle.kinds.specs.Fields.{Field}
 use Rattle.kinds.specs.declared.kind.Kind.{Kind}
 use Rattle.kinds.specs.Layout.{Part, layout, kinds}
@@ -21,7 +22,10 @@ slots_of_kinds ks = each (λ k. (layout k).fields) ks
 abbrev pub every_slot : List (Slot Part)
 every_slot = slots_of_kinds kinds
 
+abbrev pub place_at : ℕ → ℕ → ℕ → Place
+place_at w low width = record { word = word w; bits = record { low = low; width = width } }
+
 pub record PlaceIs (s : Slot Part) (r : Place) : Type 0 where
-  pub word : r.0 ≡ s.word
-  pub low : r.1 ≡ s.at
-  pub width : r.2 ≡ s.span
+  pub word : r.word.0 ≡ s.word
+  pub low : r.bits.low ≡ s.at
+  pub width : r.bits.width ≡ s.span

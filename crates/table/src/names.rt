@@ -1,8 +1,8 @@
 // The flags, numbers and pairs of the fixed kinds by name, and where each stands.
-ghost use Rattle.table.specs.Named.{FieldIs, HomeIs, flag_at, number_at, pair_at};
+ghost use Rattle.std.specs.Prelude.{◌≡◌};
+ghost use Rattle.table.specs.Named.{FieldIs, HomeIs, field_at, flag_at, number_at, pair_at};
 
-use crate::places::place_of;
-use crate::rows::row_of;
+use crate::places::{Place, place_of};
 use kinds::kind::Kind;
 
 #[derive(Clone, Copy)]
@@ -41,36 +41,72 @@ pub enum PairName {
     DeviceFamilyModelNumber,
 }
 
-// First slots of the fields that are no flag, number or pair.
-pub const UI_HINT: u8 = 2;
-
-pub const MIDI1_PORT: u8 = 3;
-
-pub const DIRECTION: u8 = 4;
-
-pub const DEVICE_MANUFACTURER: u8 = 0;
-
-pub const SOFTWARE_VERSION: u8 = 7;
-
-// The kind that has a field, and the field's first slot.
+// A field: the kind that has it, and its first slot there.
 #[derive(Clone, Copy)]
-pub struct FieldAt(pub Kind, pub u8);
+pub struct FieldAt {
+    pub kind: Kind,
+    pub slot: u8,
+}
+
+// The fields that are no flag, number or pair.
+pub const UI_HINT: FieldAt = FieldAt {
+    kind: Kind::FunctionBlockInfo,
+    slot: 2,
+};
+
+pub const MIDI1_PORT: FieldAt = FieldAt {
+    kind: Kind::FunctionBlockInfo,
+    slot: 3,
+};
+
+pub const DIRECTION: FieldAt = FieldAt {
+    kind: Kind::FunctionBlockInfo,
+    slot: 4,
+};
+
+pub const DEVICE_MANUFACTURER: FieldAt = FieldAt {
+    kind: Kind::DeviceIdentity,
+    slot: 0,
+};
+
+pub const SOFTWARE_VERSION: FieldAt = FieldAt {
+    kind: Kind::DeviceIdentity,
+    slot: 7,
+};
+
+impl FieldAt {
+    fn new(kind: Kind, slot: u8) -> FieldAt
+        ensures { result ≡ field_at kind slot }
+    {
+        FieldAt { kind, slot }
+    }
+
+    // Where the field's first number stands.
+    pub fn home(self) -> Home
+        ensures { HomeIs self.kind self.slot result }
+    {
+        Home {
+            kind: self.kind,
+            place: place_of(self.kind, self.slot as usize),
+        }
+    }
+}
 
 pub fn flag_at(flag: FlagName) -> FieldAt
     ensures { FieldIs (flag_at flag) result }
 {
     match flag {
-        FlagName::RequestEndpointInfo => FieldAt(Kind::EndpointDiscovery, 2),
-        FlagName::RequestDeviceIdentity => FieldAt(Kind::EndpointDiscovery, 3),
-        FlagName::RequestEndpointName => FieldAt(Kind::EndpointDiscovery, 4),
-        FlagName::RequestProductInstanceId => FieldAt(Kind::EndpointDiscovery, 5),
-        FlagName::RequestStreamConfiguration => FieldAt(Kind::EndpointDiscovery, 6),
-        FlagName::StaticFunctionBlocks => FieldAt(Kind::EndpointInfo, 2),
-        FlagName::SupportsMidi2Protocol => FieldAt(Kind::EndpointInfo, 3),
-        FlagName::SupportsMidi1Protocol => FieldAt(Kind::EndpointInfo, 4),
-        FlagName::SupportsReceivingJrTimestamps => FieldAt(Kind::EndpointInfo, 5),
-        FlagName::SupportsSendingJrTimestamps => FieldAt(Kind::EndpointInfo, 6),
-        FlagName::Active => FieldAt(Kind::FunctionBlockInfo, 0),
+        FlagName::RequestEndpointInfo => FieldAt::new(Kind::EndpointDiscovery, 2),
+        FlagName::RequestDeviceIdentity => FieldAt::new(Kind::EndpointDiscovery, 3),
+        FlagName::RequestEndpointName => FieldAt::new(Kind::EndpointDiscovery, 4),
+        FlagName::RequestProductInstanceId => FieldAt::new(Kind::EndpointDiscovery, 5),
+        FlagName::RequestStreamConfiguration => FieldAt::new(Kind::EndpointDiscovery, 6),
+        FlagName::StaticFunctionBlocks => FieldAt::new(Kind::EndpointInfo, 2),
+        FlagName::SupportsMidi2Protocol => FieldAt::new(Kind::EndpointInfo, 3),
+        FlagName::SupportsMidi1Protocol => FieldAt::new(Kind::EndpointInfo, 4),
+        FlagName::SupportsReceivingJrTimestamps => FieldAt::new(Kind::EndpointInfo, 5),
+        FlagName::SupportsSendingJrTimestamps => FieldAt::new(Kind::EndpointInfo, 6),
+        FlagName::Active => FieldAt::new(Kind::FunctionBlockInfo, 0),
     }
 }
 
@@ -78,16 +114,16 @@ pub fn number_at(number: NumberName) -> FieldAt
     ensures { FieldIs (number_at number) result }
 {
     match number {
-        NumberName::DiscoveryVersionMajor => FieldAt(Kind::EndpointDiscovery, 0),
-        NumberName::DiscoveryVersionMinor => FieldAt(Kind::EndpointDiscovery, 1),
-        NumberName::InfoVersionMajor => FieldAt(Kind::EndpointInfo, 0),
-        NumberName::InfoVersionMinor => FieldAt(Kind::EndpointInfo, 1),
-        NumberName::NumberOfFunctionBlocks => FieldAt(Kind::EndpointInfo, 7),
-        NumberName::FunctionBlockNumber => FieldAt(Kind::FunctionBlockInfo, 1),
-        NumberName::FirstGroup => FieldAt(Kind::FunctionBlockInfo, 5),
-        NumberName::NumberOfGroupsSpanned => FieldAt(Kind::FunctionBlockInfo, 6),
-        NumberName::MidiCiVersion => FieldAt(Kind::FunctionBlockInfo, 7),
-        NumberName::MaxNumberOfMidiCiStreams => FieldAt(Kind::FunctionBlockInfo, 8),
+        NumberName::DiscoveryVersionMajor => FieldAt::new(Kind::EndpointDiscovery, 0),
+        NumberName::DiscoveryVersionMinor => FieldAt::new(Kind::EndpointDiscovery, 1),
+        NumberName::InfoVersionMajor => FieldAt::new(Kind::EndpointInfo, 0),
+        NumberName::InfoVersionMinor => FieldAt::new(Kind::EndpointInfo, 1),
+        NumberName::NumberOfFunctionBlocks => FieldAt::new(Kind::EndpointInfo, 7),
+        NumberName::FunctionBlockNumber => FieldAt::new(Kind::FunctionBlockInfo, 1),
+        NumberName::FirstGroup => FieldAt::new(Kind::FunctionBlockInfo, 5),
+        NumberName::NumberOfGroupsSpanned => FieldAt::new(Kind::FunctionBlockInfo, 6),
+        NumberName::MidiCiVersion => FieldAt::new(Kind::FunctionBlockInfo, 7),
+        NumberName::MaxNumberOfMidiCiStreams => FieldAt::new(Kind::FunctionBlockInfo, 8),
     }
 }
 
@@ -95,45 +131,26 @@ pub fn pair_at(pair: PairName) -> FieldAt
     ensures { FieldIs (pair_at pair) result }
 {
     match pair {
-        PairName::DeviceFamily => FieldAt(Kind::DeviceIdentity, 3),
-        PairName::DeviceFamilyModelNumber => FieldAt(Kind::DeviceIdentity, 5),
+        PairName::DeviceFamily => FieldAt::new(Kind::DeviceIdentity, 3),
+        PairName::DeviceFamilyModelNumber => FieldAt::new(Kind::DeviceIdentity, 5),
     }
 }
 
-// Where a number stands in words: the status of its kind, its word, lowest bit and width.
+// The kind that has a number, and where the number stands in its messages.
 #[derive(Clone, Copy)]
 pub struct Home {
-    pub status: u32,
-    pub word: usize,
-    pub low: usize,
-    pub width: usize,
-}
-
-pub fn home_of(kind: Kind, slot: u8) -> Home
-    ensures { HomeIs kind slot result }
-{
-    let row = row_of(kind);
-    let place = place_of(kind, slot as usize);
-    Home {
-        status: row.status,
-        word: place.0,
-        low: place.1,
-        width: place.2,
-    }
+    pub kind: Kind,
+    pub place: Place,
 }
 
 pub fn flag_home(flag: FlagName) -> Home
-    ensures { HomeIs (flag_at flag).0 (flag_at flag).1 result }
+    ensures { HomeIs (flag_at flag).kind (flag_at flag).slot result }
 {
-    let at = flag_at(flag);
-    let kind = at.0;
-    home_of(kind, at.1)
+    flag_at(flag).home()
 }
 
 pub fn number_home(number: NumberName) -> Home
-    ensures { HomeIs (number_at number).0 (number_at number).1 result }
+    ensures { HomeIs (number_at number).kind (number_at number).slot result }
 {
-    let at = number_at(number);
-    let kind = at.0;
-    home_of(kind, at.1)
+    number_at(number).home()
 }

@@ -3,7 +3,7 @@ ghost use Rattle.std.specs.Prelude.{◌≡◌, ◌+◌, ◌*◌};
 ghost use Rattle.kinds.specs.Layout.{layout, kind_of};
 ghost use Rattle.table.specs.Rows.{RowIs, fixed_row, text_row, table_row};
 
-use kinds::kind::{Kind, Known};
+use kinds::kind::Kind;
 
 #[derive(Clone, Copy)]
 pub struct Row {
@@ -46,6 +46,7 @@ fn text(status: u32, first_slot: usize, slots: usize, offset: usize) -> Row
 }
 
 // The order is that of the definition.
+#[tactic(auto, unfolding(crate::proofs::RowLaws::computed))]
 pub fn row_of(kind: Kind) -> Row
     ensures { RowIs (table_row kind) result }
 {
@@ -61,6 +62,7 @@ pub fn row_of(kind: Kind) -> Row
 }
 
 // The first word of a kind without its fields: type F, format Complete and the status.
+#[tactic(auto, using(crate::proofs::RowLaws::row_small))]
 pub fn head_of(kind: Kind) -> u32
     ensures { result ≡ 0xF000_0000 + (layout kind).status * 0x1_0000 }
 {
@@ -69,17 +71,17 @@ pub fn head_of(kind: Kind) -> u32
 }
 
 #[tactic(auto, unfolding(kinds::specs::Layout::layout, kinds::specs::Layout::among))]
-pub fn kind_of(status: u32) -> Known
+pub fn kind_of(status: u32) -> Option<Kind>
     ensures { result ≡ kind_of status }
 {
     match status {
-        0x00 => Known::Is(Kind::EndpointDiscovery),
-        0x01 => Known::Is(Kind::EndpointInfo),
-        0x02 => Known::Is(Kind::DeviceIdentity),
-        0x03 => Known::Is(Kind::EndpointName),
-        0x04 => Known::Is(Kind::ProductInstanceId),
-        0x11 => Known::Is(Kind::FunctionBlockInfo),
-        0x12 => Known::Is(Kind::FunctionBlockName),
-        _ => Known::Unknown,
+        0x00 => Some(Kind::EndpointDiscovery),
+        0x01 => Some(Kind::EndpointInfo),
+        0x02 => Some(Kind::DeviceIdentity),
+        0x03 => Some(Kind::EndpointName),
+        0x04 => Some(Kind::ProductInstanceId),
+        0x11 => Some(Kind::FunctionBlockInfo),
+        0x12 => Some(Kind::FunctionBlockName),
+        _ => None,
     }
 }

@@ -1,4 +1,5 @@
 -- The text place, for any capacity: what one step does at each kind of place, and which bytes the steps from a place return. By induction on the remaining bytes, from `step_past`, `step_zero` and `step_byte`.
+use Rattle.std.specs.Prelude.{Some, None}
 use Prim.Native.Nat.{ℕ, zero, suc, ◌+◌, ◌-◌, ◌*◌, ◌/◌, ◌<◌, ◌≤◌}
 use mathlib.Core.Path.{◌≡◌, refl, sym, ap, subst, ◌∙◌}
 use mathlib.Core.Logic.{⊎_elim}
@@ -19,7 +20,6 @@ use Rattle.text.specs.Bytes.{text_byte, all_bytes, text_of}
 use Rattle.text.specs.Place.{text_place_at, byte_from, byte_at, stepped, seek, step_at}
 use Rattle.text.specs.Handed.{start_place, end_place, next_place, handed, place_after, HandsOut, none, more}
 use Rattle.text.specs.declared.TextPlace.{TextPlace}
-use Rattle.text.specs.declared.TextStep.TheVariants.{Byte, End}
 use Rattle.text.specs.declared.Stepped.{Stepped}
 
 -- the text bytes of all whole packets
@@ -87,21 +87,21 @@ pub seek_zero : (cap x : ℕ) (xs : List ℕ) (m : ℕ) → x ≡ 0 → seek cap
 unfolding seek
 seek_zero cap x xs m e = rw (eq-eqb x 0 e)
 
-pub seek-byte : (cap x : ℕ) (xs : List ℕ) (m : ℕ) → (x ≡ 0 → ⊥) → seek cap (x ∷ xs) m ≡ stepped (Byte x) (text_place_at cap (suc m))
+pub seek-byte : (cap x : ℕ) (xs : List ℕ) (m : ℕ) → (x ≡ 0 → ⊥) → seek cap (x ∷ xs) m ≡ stepped (Some x) (text_place_at cap (suc m))
 unfolding seek
 seek-byte cap x xs m n = rw (ne_eqb x 0 n)
 
-pub seek_end : (cap m : ℕ) → seek cap [] m ≡ stepped End (text_place_at cap m)
+pub seek_end : (cap m : ℕ) → seek cap [] m ≡ stepped None (text_place_at cap m)
 unfolding seek
 seek_end cap m = refl
 
 module _ (ws : List ℕ) (cap : ℕ) where
   -- A PLACE AT OR PAST THE PACKET COUNT OR THE CAPACITY is the end and does not move
-  pub step_past : (at : TextPlace) → length ws / 4 ≤ at.packet.0 → step_at ws cap at ≡ stepped End at
+  pub step_past : (at : TextPlace) → length ws / 4 ≤ at.packet.0 → step_at ws cap at ≡ stepped None at
   unfolding step_at
   step_past at hp = sym (here _ (le-leb _ _ hp) refl)
 
-  pub step_over : (at : TextPlace) → cap ≤ at.byte.0 → step_at ws cap at ≡ stepped End at
+  pub step_over : (at : TextPlace) → cap ≤ at.byte.0 → step_at ws cap at ≡ stepped None at
   unfolding step_at
   step_over at hb = ⊎_elim (λ h. sym (past _ (lt-leb _ _ h) (here _ (le-leb _ _ hb) refl))) (λ h. sym (here _ (le-leb _ _ h) refl)) (below at.packet.0 (length ws / 4))
 
@@ -116,7 +116,7 @@ module _ (ws : List ℕ) (cap : ℕ) where
       outside : length ws / 4 ≤ at.packet.0 → step_at ws cap at ≡ seek cap (drop (byte_from cap at) (bytes_in ws cap)) (byte_from cap at)
       outside h =
           let l : length (bytes_in ws cap) ≤ byte_from cap at = rw length_all (place_outside cap at hb (length ws / 4) h) in
-          step_past at h ∙ sym (rw (drop_of_length-le (bytes_in ws cap) l) (seek_end cap (byte_from cap at) ∙ ap (stepped End) (place_is cap at hb)))
+          step_past at h ∙ sym (rw (drop_of_length-le (bytes_in ws cap) l) (seek_end cap (byte_from cap at) ∙ ap (stepped None) (place_is cap at hb)))
 
   -- the step from byte number m
   step_from : 0 < cap → (m : ℕ) → step_at ws cap (text_place_at cap m) ≡ seek cap (drop m (bytes_in ws cap)) m
@@ -132,7 +132,7 @@ module _ (ws : List ℕ) (cap : ℕ) where
     pub step_zero : text_byte ws cap at.packet.0 at.byte.0 ≡ 0 → step_at ws cap at ≡ step_at ws cap (next_place cap at)
     step_zero e = step_in at hp hb ∙ rw opened (seek_zero cap _ _ _ e) ∙ sym (step_from (omega arith) (suc (byte_from cap at)))
 
-    pub step_byte : (text_byte ws cap at.packet.0 at.byte.0 ≡ 0 → ⊥) → step_at ws cap at ≡ stepped (Byte (text_byte ws cap at.packet.0 at.byte.0)) (next_place cap at)
+    pub step_byte : (text_byte ws cap at.packet.0 at.byte.0 ≡ 0 → ⊥) → step_at ws cap at ≡ stepped (Some (text_byte ws cap at.packet.0 at.byte.0)) (next_place cap at)
     step_byte n = step_in at hp hb ∙ rw opened (seek-byte cap _ _ _ n)
 
   -- the step from byte number m, if the bytes from there on are xs
@@ -140,20 +140,20 @@ module _ (ws : List ℕ) (cap : ℕ) where
     step_rest : (xs : List ℕ) → drop m (bytes_in ws cap) ≡ xs → step_at ws cap (text_place_at cap m) ≡ seek cap xs m
     step_rest xs e = step_from pos m ∙ ap (λ (l : List ℕ). seek cap l m) e
 
-    from_end : drop m (bytes_in ws cap) ≡ [] → step_at ws cap (text_place_at cap m) ≡ stepped End (text_place_at cap m)
+    from_end : drop m (bytes_in ws cap) ≡ [] → step_at ws cap (text_place_at cap m) ≡ stepped None (text_place_at cap m)
     from_end e = step_rest [] e ∙ seek_end cap m
 
     rest : (x : ℕ) (xs : List ℕ) → drop m (bytes_in ws cap) ≡ x ∷ xs → drop (suc m) (bytes_in ws cap) ≡ xs
     rest x xs e = rw (← (add-one m)) (sym (drop-drop 1 m (bytes_in ws cap)) ∙ ap (drop 1) e)
 
-    from_byte : (x : ℕ) (xs : List ℕ) → drop m (bytes_in ws cap) ≡ x ∷ xs → (x ≡ 0 → ⊥) → step_at ws cap (text_place_at cap m) ≡ stepped (Byte x) (text_place_at cap (suc m))
+    from_byte : (x : ℕ) (xs : List ℕ) → drop m (bytes_in ws cap) ≡ x ∷ xs → (x ≡ 0 → ⊥) → step_at ws cap (text_place_at cap m) ≡ stepped (Some x) (text_place_at cap (suc m))
     from_byte x xs e n = step_rest (x ∷ xs) e ∙ seek-byte cap x xs m n
 
   from_zero : (pos : 0 < cap) (m x : ℕ) (xs : List ℕ) → drop m (bytes_in ws cap) ≡ x ∷ xs → x ≡ 0 → step_at ws cap (text_place_at cap m) ≡ step_at ws cap (text_place_at cap (suc m))
   from_zero pos m x xs e z = step_rest pos m (x ∷ xs) e ∙ seek_zero cap x xs m z ∙ sym (step_rest pos (suc m) xs (rest pos m x xs e))
 
   -- a place that is the end stays there, step after step
-  pub stays : (k : ℕ) (at : TextPlace) → step_at ws cap at ≡ stepped End at → place_after k ws cap at ≡ at
+  pub stays : (k : ℕ) (at : TextPlace) → step_at ws cap at ≡ stepped None at → place_after k ws cap at ≡ at
   unfolding place_after
   stays zero at e = refl
   stays (suc k) at e = rw e (stays k at e)
@@ -167,7 +167,7 @@ module _ (ws : List ℕ) (cap : ℕ) where
   hands_from : 0 < cap → (xs : List ℕ) (m : ℕ) → m + length xs ≡ length ws / 4 * cap → drop m (bytes_in ws cap) ≡ xs → HandsOut ws cap (text_place_at cap m) (nonzero xs)
   hands_from pos [] m l e =
       let q : length ws / 4 * cap ≡ m = omega arith in
-      rw nonzero-none (none (from_end pos m e ∙ ap (stepped End) (ap (text_place_at cap) (sym q) ∙ end_is ws cap pos)))
+      rw nonzero-none (none (from_end pos m e ∙ ap (stepped None) (ap (text_place_at cap) (sym q) ∙ end_is ws cap pos)))
   hands_from pos (x ∷ xs) m l e = go (hands_from pos xs (suc m) (omega arith) (rest pos m x xs e))
     where
       go : HandsOut ws cap (text_place_at cap (suc m)) (nonzero xs) → HandsOut ws cap (text_place_at cap m) (nonzero (x ∷ xs))
@@ -202,14 +202,14 @@ module _ {ws : List ℕ} {cap : ℕ} where
   handed_is (more e r) (suc n) h = rw (e, handed_is r n (omega arith))
 
   -- step k returns byte k
-  pub step_number : {at : TextPlace} {xs : List ℕ} → HandsOut ws cap at xs → (k : ℕ) → k < length xs → (step_at ws cap (place_after k ws cap at)).step ≡ Byte (get_or xs k 0)
+  pub step_number : {at : TextPlace} {xs : List ℕ} → HandsOut ws cap at xs → (k : ℕ) → k < length xs → (step_at ws cap (place_after k ws cap at)).step ≡ Some (get_or xs k 0)
   unfolding place_after
   step_number (none e) k h = absurd (omega arith)
   step_number (more e r) zero h = rw e
   step_number (more e r) (suc k) h = rw e (step_number r k (omega arith))
 
   -- every step after the last byte is the end, at packet count, byte 0
-  pub end_after : {at : TextPlace} {xs : List ℕ} → HandsOut ws cap at xs → (k : ℕ) → length xs ≤ k → step_at ws cap (place_after k ws cap at) ≡ stepped End (end_place ws)
+  pub end_after : {at : TextPlace} {xs : List ℕ} → HandsOut ws cap at xs → (k : ℕ) → length xs ≤ k → step_at ws cap (place_after k ws cap at) ≡ stepped None (end_place ws)
   unfolding place_after
   end_after (none e) zero h = e
   end_after (none e) (suc k) h =
@@ -219,22 +219,22 @@ module _ {ws : List ℕ} {cap : ℕ} where
   end_after (more e r) (suc k) h = rw e (end_after r k (omega arith))
 
   -- a step that is the end means that no byte is left
-  ended_of : {at : TextPlace} {xs : List ℕ} → HandsOut ws cap at xs → (step_at ws cap at).step ≡ End → step_at ws cap at ≡ stepped End (end_place ws)
+  ended_of : {at : TextPlace} {xs : List ℕ} → HandsOut ws cap at xs → (step_at ws cap at).step ≡ None → step_at ws cap at ≡ stepped None (end_place ws)
   ended_of (none e) t = e
   ended_of (more e r) t = never (let q = ap (λ (s : Stepped). s.step) e in cc)
 
 module _ (ws : List ℕ) (cap : ℕ) where
   -- INSIDE THE TEXT, a step that is the end leaves the place at packet count, byte 0
-  pub end_within : (at : TextPlace) → at.packet.0 < length ws / 4 → at.byte.0 < cap → (step_at ws cap at).step ≡ End → step_at ws cap at ≡ stepped End (end_place ws)
+  pub end_within : (at : TextPlace) → at.packet.0 < length ws / 4 → at.byte.0 < cap → (step_at ws cap at).step ≡ None → step_at ws cap at ≡ stepped None (end_place ws)
   end_within at hp hb t = ended_of (hands_rest ws cap at hp hb) t
 
   -- AFTER ANY END, wherever the place was, the next step is the end and does not move
-  pub end_stays : (at : TextPlace) → (step_at ws cap at).step ≡ End → step_at ws cap (step_at ws cap at).place ≡ stepped End (step_at ws cap at).place
+  pub end_stays : (at : TextPlace) → (step_at ws cap at).step ≡ None → step_at ws cap (step_at ws cap at).place ≡ stepped None (step_at ws cap at).place
   end_stays at t =
       ⊎_elim (λ hb. ⊎_elim (λ hp. at_end (end_within at hp hb t) (step_past ws cap (end_place ws) (omega arith))) (λ h. let e = step_past ws cap at h in at_end e e) (below at.packet.0 (length ws / 4)))
       (λ h. let e = step_over ws cap at h in at_end e e) (below at.byte.0 cap)
     where
-      at_end : {to : TextPlace} → step_at ws cap at ≡ stepped End to → step_at ws cap to ≡ stepped End to → step_at ws cap (step_at ws cap at).place ≡ stepped End (step_at ws cap at).place
+      at_end : {to : TextPlace} → step_at ws cap at ≡ stepped None to → step_at ws cap to ≡ stepped None to → step_at ws cap (step_at ws cap at).place ≡ stepped None (step_at ws cap at).place
       at_end e f = rw e f
 
   module _ (pos : 0 < cap) where
@@ -243,5 +243,5 @@ module _ (ws : List ℕ) (cap : ℕ) where
     handed_all n h = handed_is (hands_all ws cap pos) n (omega (arith, nonzero-length (bytes_in ws cap), length_all ws cap (length ws / 4)))
 
     -- AFTER THE LAST NONZERO BYTE, the next step is the end and leaves the place at packet count, byte 0
-    pub end_next : step_at ws cap (place_after (length (text_of ws cap (length ws / 4))) ws cap start_place) ≡ stepped End (end_place ws)
+    pub end_next : step_at ws cap (place_after (length (text_of ws cap (length ws / 4))) ws cap start_place) ≡ stepped None (end_place ws)
     end_next = end_after (hands_all ws cap pos) _ (omega arith)

@@ -1,10 +1,8 @@
 -- Several steps in a row: the bytes that they return, and the place that they reach.
-use Rattle.std.specs.Prelude.{ℕ, zero, suc, ◌/◌, ◌≡◌, List, [], ◌∷◌, length}
+use Rattle.std.specs.Prelude.{ℕ, zero, suc, ◌/◌, ◌≡◌, List, [], ◌∷◌, length, Option, Some, None}
 use Rattle.counts.specs.Counts.{packet, byte}
 use Rattle.text.specs.Place.{text_place_at, byte_from, stepped, step_at}
 use Rattle.text.specs.declared.TextPlace.{TextPlace}
-use Rattle.text.specs.declared.TextStep.{TextStep}
-use Rattle.text.specs.declared.TextStep.TheVariants.{Byte, End}
 
 -- the first place of any text
 abbrev pub start_place : TextPlace
@@ -19,9 +17,9 @@ abbrev pub next_place : ℕ → TextPlace → TextPlace
 next_place cap at = text_place_at cap (suc (byte_from cap at))
 
 -- a step's byte in front of the later ones; nothing if the step is the end
-abbrev pub prepend_byte : TextStep → List ℕ → List ℕ
-prepend_byte (Byte x) rest = x ∷ rest
-prepend_byte End rest = []
+abbrev pub prepend_byte : Option ℕ → List ℕ → List ℕ
+prepend_byte (Some x) rest = x ∷ rest
+prepend_byte None rest = []
 
 -- the bytes of at most n steps from a place, up to the end
 unfoldable pub handed : ℕ → List ℕ → ℕ → TextPlace → List ℕ
@@ -35,5 +33,5 @@ place_after (suc n) ws cap at = place_after n ws cap (step_at ws cap at).place
 
 -- the steps from a place return these bytes and then the end, at packet count, byte 0
 pub data HandsOut (ws : List ℕ) (cap : ℕ) : TextPlace → List ℕ → Type 0 where
-  none : {at : TextPlace} → step_at ws cap at ≡ stepped End (end_place ws) → HandsOut ws cap at []
-  more : {at to : TextPlace} {x : ℕ} {xs : List ℕ} → step_at ws cap at ≡ stepped (Byte x) to → HandsOut ws cap to xs → HandsOut ws cap at (x ∷ xs)
+  none : {at : TextPlace} → step_at ws cap at ≡ stepped None (end_place ws) → HandsOut ws cap at []
+  more : {at to : TextPlace} {x : ℕ} {xs : List ℕ} → step_at ws cap at ≡ stepped (Some x) to → HandsOut ws cap to xs → HandsOut ws cap at (x ∷ xs)

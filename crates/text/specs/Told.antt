@@ -1,5 +1,5 @@
 -- Document 01's section "Text" told once more, by examples in plain numbers: packets needed, formats, which octets are text, and the text place.
-use Rattle.std.specs.Prelude.{ℕ, ◌+◌, ◌*◌, ◌≡◌, List, [], ◌∷◌, ◌++◌, replicate}
+use Rattle.std.specs.Prelude.{ℕ, ◌+◌, ◌*◌, ◌≡◌, List, [], ◌∷◌, ◌++◌, replicate, Some, None}
 use Rattle.laws.specs.Lists.{map}
 use Rattle.counts.specs.Counts.{packet, byte}
 use Rattle.text.specs.Octets.{octet_of, needed, due_format}
@@ -9,7 +9,6 @@ use Rattle.text.specs.Place.{byte_at, stepped, step_at}
 use Rattle.text.specs.Handed.{start_place, end_place, next_place}
 use Rattle.text.specs.BigEndian.{big_endian_at}
 use Rattle.text.specs.declared.TextPlace.{TextPlace}
-use Rattle.text.specs.declared.TextStep.TheVariants.{Byte, End}
 
 -- packet number and byte number as a text place
 abbrev at : ℕ → ℕ → TextPlace
@@ -17,10 +16,10 @@ at p b = record { packet = packet p; byte = byte b }
 
 -- from a place a step gives a byte and leaves the second place; a step gives the end
 abbrev Finds : List ℕ → ℕ → TextPlace → ℕ → TextPlace → Type 0
-Finds ws cap from x to = step_at ws cap from ≡ stepped (Byte x) to
+Finds ws cap from x to = step_at ws cap from ≡ stepped (Some x) to
 
 abbrev Ends : List ℕ → ℕ → TextPlace → TextPlace → Type 0
-Ends ws cap from to = step_at ws cap from ≡ stepped End to
+Ends ws cap from to = step_at ws cap from ≡ stepped None to
 
 -- a packet whose text octets are their own numbers
 abbrev numbered : List ℕ

@@ -3,13 +3,12 @@ ghost use Rattle.std.specs.Prelude.{◌≡◌, ◌+◌, ◌-◌, ◌^◌, ◌<�
 ghost use Rattle.text.specs.Octets.{octet_of};
 ghost use Rattle.text.specs.Place.{byte_at, stepped, step_at};
 ghost use Rattle.text.specs.Handed.{start_place, next_place};
-ghost use Rattle.text.specs.declared.TextStep.TheVariants.{End};
 
 use crate::packets::packets_of;
-use crate::{Stepped, TextPlace, TextStep};
+use crate::{Stepped, TextPlace};
 use counts::{PacketNumber, TextByteNumber, first_word};
 
-// Octet j of a word.
+// Octet j of a word. An element of `to_be_bytes` goes through memory, and the shift doesn't.
 #[tactic(auto, unfolding(crate::specs::Octets::octet_of))]
 fn octet_of(word: u32, j: usize) -> u8
     requires { j < 4 }
@@ -19,12 +18,13 @@ fn octet_of(word: u32, j: usize) -> u8
 }
 
 // The text byte at a place; 0 if no whole packet has such a byte. Octet o of a packet is octet o % 4 of its word o / 4.
+// No Option: a zero octet is no byte of the text either, so a caller would turn None into 0.
 #[tactic(auto, unfolding(crate::specs::Place::byte_at, crate::specs::Bytes::text_byte))]
 pub fn text_byte(words: &[u32], offset: usize, at: TextPlace) -> u8
     ensures { result ≡ byte_at words.now (14 - offset) at }
 {
     let b = at.byte.0;
-    if packets_of(words).0 <= at.packet.0 {
+    if packets_of(words) <= at.packet {
         return 0;
     }
     if 14 <= offset {
@@ -39,21 +39,21 @@ pub fn text_byte(words: &[u32], offset: usize, at: TextPlace) -> u8
 }
 
 // The next place; after a packet's last byte comes byte 0 of the next packet.
+#[tactic(auto, using(crate::proofs::Place::next_byte))]
 fn next_place(capacity: usize, at: TextPlace) -> TextPlace
     requires { (at.byte.0 < capacity) × (at.packet.0 + 1 < 2 ^ 64) }
     ensures { result ≡ next_place capacity at }
 {
-    let p = at.packet.0;
     let b = at.byte.0;
     if b + 1 == capacity {
         return TextPlace {
-            packet: PacketNumber(p + 1),
+            packet: PacketNumber(at.packet.0 + 1),
             byte: TextByteNumber(0),
         };
     }
     TextPlace {
-        packet: PacketNumber(p),
         byte: TextByteNumber(b + 1),
+        ..at
     }
 }
 
@@ -69,10 +69,10 @@ pub fn start() -> TextPlace
 
 // The end of the text, at a place.
 fn end_at(at: TextPlace) -> Stepped
-    ensures { result ≡ stepped End at }
+    ensures { result ≡ stepped None at }
 {
     Stepped {
-        step: TextStep::End,
+        step: None,
         place: at,
     }
 }
@@ -89,12 +89,13 @@ pub fn step(words: &[u32], offset: usize, at: TextPlace) -> Stepped
     }
     let packets = packets_of(words);
     let mut place = at;
+    // The place is what the caller gets back, and no number of a range.
     while place.packet.0 < packets.0 {
         let x = text_byte(words, offset, place);
         place = next_place(14 - offset, place);
         if x != 0 {
             return Stepped {
-                step: TextStep::Byte(x),
+                step: Some(x),
                 place,
             };
         }

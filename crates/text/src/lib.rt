@@ -14,16 +14,9 @@ pub struct TextPlace {
     pub byte: TextByteNumber,
 }
 
-// What one step finds.
-#[derive(Clone, Copy)]
-pub enum TextStep {
-    Byte(u8),
-    End,
-}
-
 // A step, and the place after it.
 #[derive(Clone, Copy)]
 pub struct Stepped {
-    pub step: TextStep,
+    pub step: Option<u8>,
     pub place: TextPlace,
 }

@@ -1,4 +1,5 @@
 -- ASCII text in packets is UTF-8: each packet leaves no character open. If text is ASCII from octet 2 on, it is so from any later octet on: a smaller mask leaves fewer octets.
+use Rattle.std.specs.Prelude.{Ok}
 use Prim.Native.Nat.{ℕ, zero, suc, ◌+◌, ◌-◌, ◌*◌, ◌/◌, ◌%◌, ◌^◌, ◌≤◌, ◌<◌}
 use mathlib.Core.Path.{◌≡◌, sym}
 use mathlib.Core.Bool.{true, false}
@@ -8,19 +9,23 @@ use native.Mathlib.Numerals.{add-one}
 use native.Mathlib.Omega.{arith}
 use lib.Dec.{leb, ltb, lit≤}
 use lib.ListN.{length, get_or}
-use borrow.Author.Tests.{lt-ltb, ltb-true}
+use borrow.Author.Tests.{lt-leb, lt-ltb, ltb-true}
 use Rattle.laws.proofs.Pick.{true_false, passed, below}
 use Rattle.laws.proofs.EachBelow.{four_hold}
 use Rattle.utf8.specs.Utf8.{first_bad}
-use Rattle.utf8.specs.declared.Utf8.TheVariants.{Good}
 use Rattle.text.specs.Octets.{octet_of}
 use Rattle.text.specs.Bytes.{text_of}
-use Rattle.text_check.specs.FastCheck.{mask_bits, text_word, ascii_word, ascii_texts, ascii_packet, AsciiStart}
+use Rattle.text_check.specs.FastCheck.{mask_bits, text_masks, text_words, text_word, ascii_word, ascii_words, ascii_texts, ascii_packet, AsciiStart}
 use Rattle.text_check.proofs.Places.{good_is}
 use Rattle.text_check.proofs.KnownSteps.{ascii_word_stays}
 use Rattle.text_check.proofs.MaskedWords.{octet_fewer, masked, AtPacket, packets_begin, packets_turn, packets_finish}
 
 module _ (ws : List ℕ) (offset : ℕ) where
+  -- the look at a packet that is there
+  pub ascii_here : (p : ℕ) (masks text : List ℕ) → p < length ws / 4 → masks ≡ text_masks offset → text ≡ text_words ws masks p → ascii_packet ws offset p ≡ ascii_words (get_or text 0 0) (get_or text 1 0) (get_or text 2 0) (get_or text 3 0)
+  unfolding ascii_packet
+  ascii_here p masks text h m t = rw (lt-leb (length ws / 4) p h, t, m)
+
   packet_turn : (p n : ℕ) → p < n → ascii_packet ws offset p ≡ true → AtPacket ws offset 0 p n → AtPacket ws offset 0 (p + 1) n
   unfolding ascii_packet
   packet_turn p n h e st =
@@ -48,7 +53,7 @@ module _ (ws : List ℕ) (offset : ℕ) where
   ascii_reached {k} s = ascii_passed (length ws / 4) k s.in_bounds s.ascii
 
   -- ASCII TEXT IS UTF-8
-  pub ascii_good : (n : ℕ) → ((p : ℕ) → p < n → ascii_packet ws offset p ≡ true) → first_bad (text_of ws (14 - offset) n) ≡ Good
+  pub ascii_good : (n : ℕ) → ((p : ℕ) → p < n → ascii_packet ws offset p ≡ true) → first_bad (text_of ws (14 - offset) n) ≡ Ok tt
   ascii_good n plain = sym (good_is _ (sym (packets_finish ws offset 0 n n (omega arith) (ascii_passed n n (omega arith) plain))))
 
 -- ---- text that starts at a later octet

@@ -1,73 +1,67 @@
 -- The byte-by-byte check of text in packets: one turn of its loop, and its end. Proved by dividing a byte's number by the capacity, and by the laws of a check that skips zeros.
-use Prim.Native.Nat.{ℕ, suc, ◌+◌, ◌*◌, ◌^◌, ◌<◌, ◌≤◌}
-use mathlib.Core.Path.{◌≡◌, ◌∙◌}
+use Rattle.std.specs.Prelude.{◌/◌, length, Result, Ok, Err}
+use Prim.Native.Nat.{ℕ, ◌+◌, ◌*◌, ◌^◌, ◌<◌, ◌≤◌}
+use mathlib.Core.Path.{◌≡◌, refl, sym, ◌∙◌}
 use mathlib.Core.List.{List}
+use native.Mathlib.Numerals.{add-one}
 use native.Mathlib.Omega.{arith}
-use native.Mathlib.Nat.{add-mul, one-mul, mul-zero, mul-le-mul_right}
+use native.Mathlib.Nat.{add-mul, one-mul, zero-mul, mul-le-mul_left}
 use lib.Arith.{digits_lt}
-use lib.ListN.{get_or, drop}
-use Rattle.laws.specs.Lists.{tabulate, nonzero}
+use lib.ListN.{get_or}
 use Rattle.utf8.specs.Utf8.{first_bad}
-use Rattle.utf8.specs.Scan.{verdict_at_end, new_skipping_scan, after_read, verdict_after}
+use Rattle.utf8.specs.Scan.{verdict_at_end, new_skipping_scan, after_read}
 use Rattle.counts.specs.Counts.{packet, byte}
 use Rattle.counts.specs.declared.TextByteNumber.{TextByteNumber}
-use Rattle.utf8.specs.declared.scan.Scan.TheVariants.{Stopped}
 use Rattle.utf8.specs.declared.skipping_zeros.SkippingScan.{SkippingScan}
-use Rattle.utf8.specs.declared.Utf8.TheVariants.{Good, BadAt}
-use Rattle.utf8.proofs.Steps.{skipping_start, skipping_count, skipping_early, skipping_turn, skipping_finish}
+use Rattle.utf8.proofs.Steps.{skipping_start, skipping_count, skipping_turn, skipping_finish}
 use Rattle.text.specs.Bytes.{text_byte, all_bytes, text_of}
 use Rattle.text.proofs.Back.{octet_small}
-use Rattle.text.proofs.Place.{length_all, all_at}
+use Rattle.text.specs.declared.TextPlace.{TextPlace}
+use Rattle.text.specs.Place.{byte_at}
+use Rattle.text.proofs.Place.{byte_in, length_all, all_at}
+use Rattle.laws.proofs.Pick.{never}
+use Rattle.text_check.specs.ByByte.{HasRead}
 
 byte_small : (ws : List ℕ) (cap p b : ℕ) → text_byte ws cap p b < 256
 unfolding text_byte
 byte_small ws cap p b = octet_small _ _
 
--- with capacity 0 there is no text
-pub no_capacity : (ws : List ℕ) (cap n : ℕ) → cap ≡ 0 → Good ≡ first_bad (text_of ws cap n)
-unfolding all_bytes tabulate nonzero first_bad
-no_capacity ws cap n e = rw (e, mul-zero)
+-- ---- the loops over packets p and their bytes b
 
--- ---- the loop over packets p and their bytes b
+module _ (ws : List ℕ) (cap : ℕ) where
+  pub read_none : HasRead ws cap (Ok new_skipping_scan) (0 * cap)
+  read_none =
+      rw zero-mul (record {
+        few = λ c e. let q : c ≡ new_skipping_scan = cc in rw q (omega arith);
+        same-verdict = skipping_start (all_bytes ws cap (length ws / 4));
+      })
 
-module _ (ws : List ℕ) (cap n : ℕ) where
-  -- the loop invariant: checking the remaining bytes from here gives the verdict on the whole text
-  pub record ToCheck (r : SkippingScan) (p b : ℕ) : Type 0 where
-    pub low : b < cap
-    pub few : r.at.0 ≤ p * 14 + b
-    pub same-verdict : verdict_after r (drop (p * cap + b) (all_bytes ws cap n)) ≡ first_bad (text_of ws cap n)
-
-  -- the same after byte b of packet p was read
-  pub record AfterByte (r : SkippingScan) (p b : ℕ) : Type 0 where
-    pub few : r.at.0 ≤ p * 14 + b + 1
-    pub same-verdict : verdict_after r (drop (suc (p * cap + b)) (all_bytes ws cap n)) ≡ first_bad (text_of ws cap n)
-
-  pub to_check_begin : 0 < cap → ToCheck new_skipping_scan 0 0
-  to_check_begin h = let z : 0 * cap + 0 ≡ 0 = omega arith in record { low = h; few = omega arith; same-verdict = rw z (skipping_start (all_bytes ws cap n)) }
-
-  pub to_check_turn : (q r : SkippingScan) (p b : ℕ) → p < n → q.at.0 + 1 < 2 ^ 64 → ToCheck q p b → r ≡ after_read q (text_byte ws cap p b) → AfterByte r p b
-  to_check_turn q r p b h k l e =
-      let v : get_or (all_bytes ws cap n) (p * cap + b) 0 ≡ text_byte ws cap p b = all_at ws cap n (record { packet = packet p; byte = byte b }) h l.low in
+  -- after byte b of packet p was read
+  pub read_more : (c : SkippingScan) (r : Result SkippingScan TextByteNumber) (p b : ℕ) → p < length ws / 4 → b < cap → c.at.0 + 1 < 2 ^ 64 → HasRead ws cap (Ok c) (p * cap + b) → r ≡ after_read (Ok c) (text_byte ws cap p b) → HasRead ws cap r (p * cap + b + 1)
+  read_more c r p b h l k m e =
+      let bytes : List ℕ = all_bytes ws cap (length ws / 4) in
+      let v : get_or bytes (p * cap + b) 0 ≡ text_byte ws cap p b = all_at ws cap (length ws / 4) (record { packet = packet p; byte = byte b }) h l in
+      let turn = skipping_turn bytes c (p * cap + b) (rw length_all (digits_lt h l)) (rw v (byte_small ws cap p b)) k in
       record {
-        few = rw e (omega (arith, l.few, skipping_count q (text_byte ws cap p b)));
-        same-verdict = skipping_turn (all_bytes ws cap n) q r (p * cap + b) (rw length_all (digits_lt h l.low)) (rw v (byte_small ws cap p b)) k (rw v e) ∙ l.same-verdict;
+        few = λ q f. let n = skipping_count c q (text_byte ws cap p b) (sym e ∙ f) in omega (arith, n, m.few c refl);
+        same-verdict = rw (add-one, e) ((rw v at turn) ∙ m.same-verdict);
       }
 
-  pub to_check_stop : (r : SkippingScan) (p b : ℕ) (m : TextByteNumber) → AfterByte r p b → r.scan ≡ Stopped m → BadAt m ≡ first_bad (text_of ws cap n)
-  to_check_stop r p b m h e = skipping_early r (drop (suc (p * cap + b)) (all_bytes ws cap n)) m _ e h.same-verdict
+  -- the same for the byte at a place of a text that memory can hold
+  pub read_at : (c : SkippingScan) (r : Result SkippingScan TextByteNumber) (at : TextPlace) → length ws < 2 ^ 62 → cap ≤ 14 → at.packet.0 < length ws / 4 → at.byte.0 < cap → HasRead ws cap (Ok c) (at.packet.0 * cap + at.byte.0) → r ≡ after_read (Ok c) (byte_at ws cap at) → HasRead ws cap r (at.packet.0 * cap + (at.byte.0 + 1))
+  read_at c r at f g h l m e =
+      let s : at.packet.0 * cap ≤ at.packet.0 * 14 = mul-le-mul_left at.packet.0 g in
+      let k : c.at.0 + 1 < 2 ^ 64 = omega (arith, m.few c refl) in
+      let q : at.packet.0 * cap + at.byte.0 + 1 ≡ at.packet.0 * cap + (at.byte.0 + 1) = omega arith in
+      rw q at (read_more c r at.packet.0 at.byte.0 h l k m (rw byte_in at e))
 
-  -- the next byte of the packet, and the first byte of the next packet
-  pub to_check_next_byte : (r : SkippingScan) (p b : ℕ) → b + 1 < cap → AfterByte r p b → ToCheck r p (b + 1)
-  to_check_next_byte r p b l h =
-      let e : suc (p * cap + b) ≡ p * cap + (b + 1) = omega arith in
-      record { low = l; few = omega (arith, h.few); same-verdict = rw (← e) h.same-verdict }
+  -- after the last byte of a packet
+  pub packet_end : (r : Result SkippingScan TextByteNumber) (p b : ℕ) → b ≡ cap → HasRead ws cap r (p * cap + b) → HasRead ws cap r ((p + 1) * cap)
+  packet_end r p b e m = let q : p * cap + b ≡ (p + 1) * cap = rw (e, add-mul, one-mul) in rw q at m
 
-  pub to_check_next_packet : (r : SkippingScan) (p b : ℕ) → b + 1 ≡ cap → cap ≤ 14 → AfterByte r p b → ToCheck r (p + 1) 0
-  to_check_next_packet r p b l m h =
-      let g : (p + 1) * cap ≡ p * cap + cap = rw (add-mul, one-mul) in
-      let e : suc (p * cap + b) ≡ (p + 1) * cap + 0 = omega arith in
-      record { low = omega arith; few = omega (arith, h.few); same-verdict = rw (← e) h.same-verdict }
+  -- a check that has stopped stays so
+  pub read_stopped : (n : TextByteNumber) (k m : ℕ) → HasRead ws cap (Err n) k → HasRead ws cap (Err n) m
+  read_stopped n k m h = record { few = λ c e. never (cc); same-verdict = h.same-verdict }
 
-  pub to_check_finish : (r : SkippingScan) (p b : ℕ) → n ≤ p → ToCheck r p b → verdict_at_end r.scan ≡ first_bad (text_of ws cap n)
-  to_check_finish r p b h l =
-      skipping_finish (all_bytes ws cap n) r (p * cap + b) (rw length_all (omega (arith, mul-le-mul_right cap h))) ∙ l.same-verdict
+  pub read_all : (c : SkippingScan) (k : ℕ) → length ws / 4 * cap ≤ k → HasRead ws cap (Ok c) k → verdict_at_end (Ok c.last) ≡ first_bad (text_of ws cap (length ws / 4))
+  read_all c k h m = skipping_finish (all_bytes ws cap (length ws / 4)) c k (rw length_all h) ∙ m.same-verdict

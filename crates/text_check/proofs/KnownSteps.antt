@@ -1,42 +1,41 @@
 -- Steps whose result a look tells: ASCII bytes and simple three-byte characters. Proved by computing a test for all 256 bytes.
 use Prim.Native.Nat.{ℕ, ◌+◌, ◌-◌, ◌/◌, ◌%◌, ◌<◌}
-use mathlib.Core.Path.{◌≡◌, sym, ap, ◌∙◌}
+use mathlib.Core.Path.{◌≡◌, refl, sym, ap, ◌∙◌}
 use mathlib.Core.Bool.{Bool, true, false, ◌&&◌}
 use native.Mathlib.Omega.{arith}
 use lib.Dec.{T, eqb, eqb→eq, ltb}
 use borrow.Author.Tests.{eqb-true}
 use Rattle.laws.specs.Pick.{pick}
-use Rattle.laws.proofs.Pick.{true_false, split}
+use Rattle.laws.proofs.Pick.{true_false, split, picked}
+use Rattle.counts.specs.declared.TextByteNumber.{TextByteNumber}
 use Rattle.laws.proofs.EachBelow.{each_below, each_at, and_left, and_right, and_l, and_r, three_hold, four_hold, five_hold, six_hold, implied, implied_holds}
 use Rattle.counts.specs.Counts.{byte}
-use Rattle.utf8.specs.Scan.{leading_ones, length_by_ones, char_length, second_low, second_high, tails_due, after_first_byte, after_byte}
-use Rattle.utf8.specs.declared.scan.Scan.{Scan}
-use Rattle.utf8.specs.declared.scan.Scan.TheVariants.{Going, Stopped}
+use Rattle.std.specs.Prelude.{Ok, Err}
+use Rattle.utf8.specs.Scan.{Scan, leading_ones, length_by_ones, char_length, second_low, second_high, tails_due, after_first_byte, after_byte}
 use Rattle.text.specs.Octets.{octet_of}
 use Rattle.text.proofs.Back.{octet_small}
-use Rattle.text_check.specs.FastCheck.{after_text_byte, scan_of, number_of, is_e0_to_ef, not_e0_or_ed, simple_first, is_tail, run_of_one, run_of_two, first_three, last_three, run_none_due, run_one_due, run_two_due, run_of_four, run_of_twelve, after_octets, after_word, ascii_word}
+use Rattle.text_check.specs.FastCheck.{after_text_byte, character_of, scan_of, number_of, is_e0_to_ef, not_e0_or_ed, simple_first, is_tail, run_of_one, run_of_two, simple_character, run_none_due, run_one_due, run_two_due, run_of_four, run_of_twelve, after_octets, after_word, ascii_word}
 
 -- ---- one byte, with zeros dropped or kept
 
 -- so many tails are due
 abbrev pub tails : ℕ → Scan
-tails n = tails_due n (byte 0)
+tails n = Ok (tails_due n (byte 0))
 
 is_tails : ℕ → Scan → Bool
-is_tails n (Stopped m) = false
-is_tails n (Going due low high start) = (eqb due n && eqb low 0x80) && (eqb high 0xBF && eqb start.0 0)
+is_tails n (Err m) = false
+is_tails n (Ok c) = (eqb c.due n && eqb c.low 0x80) && (eqb c.high 0xBF && eqb c.start.0 0)
 
 is_tails_lem : (n : ℕ) (k : Scan) → T (is_tails n k) → k ≡ tails n
 unfolding is_tails
-is_tails_lem n (Stopped m) t = absurd t
-is_tails_lem n (Going due low high start) t =
-    let front = and_left (eqb due n && eqb low 0x80) (eqb high 0xBF && eqb start.0 0) t in
-    let back = and_right (eqb due n && eqb low 0x80) (eqb high 0xBF && eqb start.0 0) t in
-    let d = eqb→eq due n (and_left (eqb due n) (eqb low 0x80) front) in
-    let l = eqb→eq low 0x80 (and_right (eqb due n) (eqb low 0x80) front) in
-    let h = eqb→eq high 0xBF (and_left (eqb high 0xBF) (eqb start.0 0) back) in
-    let s : start ≡ byte 0 = ap byte (eqb→eq start.0 0 (and_right (eqb high 0xBF) (eqb start.0 0) back)) in
-    rw (d, l, h, s)
+is_tails_lem n (Err m) t = absurd t
+is_tails_lem n (Ok c) t =
+    let front = and_left (eqb c.due n && eqb c.low 0x80) (eqb c.high 0xBF && eqb c.start.0 0) t in
+    let back = and_right (eqb c.due n && eqb c.low 0x80) (eqb c.high 0xBF && eqb c.start.0 0) t in
+    same_fields c.due c.low c.high c.start.0 (eqb→eq c.due n (and_left (eqb c.due n) (eqb c.low 0x80) front)) (eqb→eq c.low 0x80 (and_right (eqb c.due n) (eqb c.low 0x80) front)) (eqb→eq c.high 0xBF (and_left (eqb c.high 0xBF) (eqb c.start.0 0) back)) (eqb→eq c.start.0 0 (and_right (eqb c.high 0xBF) (eqb c.start.0 0) back))
+  where
+    same_fields : (due low high start : ℕ) → due ≡ n → low ≡ 0x80 → high ≡ 0xBF → start ≡ 0 → Ok (record { due = due; low = low; high = high; start = byte start }) ≡ tails n
+    same_fields due low high start d l h s = rw (d, l, h, s)
 
 -- byte b leads from `s` tails due to `next`, whether zeros are dropped or kept
 pub record Leads (s b next : ℕ) : Type 0 where
@@ -125,17 +124,10 @@ module _ (w : ℕ) where
       record { first = octet_first w 0 t.0; second = octet_last w 1 t.1; third = octet_opens w 2 t.2 t.4; fourth = octet_first w 3 t.3 }
 
   -- a simple three-byte character in the first three octets, or in the last three
-  pub first_three_steps : first_three w ≡ true → Leads 0 (octet_of w 0) 2 × Leads 2 (octet_of w 1) 1 × Leads 1 (octet_of w 2) 0
-  unfolding first_three
-  first_three_steps e =
-      let t = four_hold (is_e0_to_ef (octet_of w 0)) (is_tail (octet_of w 1)) (is_tail (octet_of w 2)) (not_e0_or_ed (octet_of w 0)) e in
-      (octet_opens w 0 t.0 t.3, octet_first w 1 t.1, octet_last w 2 t.2)
-
-  pub last_three_steps : last_three w ≡ true → Leads 0 (octet_of w 1) 2 × Leads 2 (octet_of w 2) 1 × Leads 1 (octet_of w 3) 0
-  unfolding last_three
-  last_three_steps e =
-      let t = four_hold (is_e0_to_ef (octet_of w 1)) (is_tail (octet_of w 2)) (is_tail (octet_of w 3)) (not_e0_or_ed (octet_of w 1)) e in
-      (octet_opens w 1 t.0 t.3, octet_first w 2 t.1, octet_last w 3 t.2)
+  pub simple_steps : (j : ℕ) → simple_character (octet_of w j) (octet_of w (j + 1)) (octet_of w (j + 2)) ≡ true → Leads 0 (octet_of w j) 2 × Leads 2 (octet_of w (j + 1)) 1 × Leads 1 (octet_of w (j + 2)) 0
+  simple_steps j e =
+      let t = four_hold _ _ _ _ e in
+      (octet_opens w j t.0 t.3, octet_first w (j + 1) t.1, octet_last w (j + 2) t.2)
 
 -- ---- where none, one or two tails are due
 
@@ -192,7 +184,7 @@ two_steps s a b e =
 -- ---- the same, from number to number
 
 few_scan : (s : ℕ) → s < 3 → scan_of s ≡ tails s
-unfolding scan_of
+unfolding character_of
 few_scan s h =
     let d : s % 0x100 ≡ s = omega arith in
     let l : 0x80 + s / 0x100 % 0x80 ≡ 0x80 = omega arith in
@@ -214,6 +206,11 @@ known {s} {w} {t} h e = record { few = h; after = ap (λ (k : Scan). number_of (
 
 pub ascii_word_stays : (w : ℕ) → ascii_word w ≡ true → after_word 0 w ≡ 0
 ascii_word_stays w e = (known {s = 0} {w = w} {t = 0} (omega arith) (word_steps (ascii_steps w e))).after
+
+-- a scan that has stopped stays so
+pub stopped_stays : (n : TextByteNumber) (b : ℕ) → after_text_byte (Err n) b ≡ Err n
+unfolding after_text_byte after_byte
+stopped_stays n b = picked (λ (k : Scan). k ≡ Err n) (eqb b 0) (Err n) (Err n) (λ e. refl) (λ e. refl)
 
 zero_dropped : (k : Scan) (b : ℕ) → b ≡ 0 → after_text_byte k b ≡ k
 unfolding after_text_byte

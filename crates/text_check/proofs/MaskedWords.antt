@@ -18,7 +18,7 @@ use Rattle.utf8.specs.Utf8.{first_bad}
 use Rattle.text.specs.Octets.{octet_of}
 use Rattle.text.specs.Bytes.{text_byte, all_bytes, text_of}
 use Rattle.text.proofs.Bytes.{bytes_from, bytes_packet}
-use Rattle.text_check.specs.FastCheck.{is_good, scan_of, mask_bits, text_mask, after_word}
+use Rattle.text_check.specs.FastCheck.{is_good, character_of, scan_of, mask_bits, text_mask, text_masks, text_words, after_word}
 use Rattle.text_check.proofs.Progress.{WillAnswer, answer_start}
 use Rattle.text_check.proofs.Numbers.{answer_word, answer_last}
 
@@ -108,7 +108,7 @@ module _ (ws : List ℕ) (offset : ℕ) where
   AtPacket s p n = WillAnswer (scan_of s) (nonzero (masked_from ws offset p (n - p))) (is_good (first_bad (text_of ws (14 - offset) n)))
 
   pub packets_begin : (n : ℕ) → AtPacket 0 0 n
-  unfolding scan_of
+  unfolding character_of
   packets_begin n = rw (sub-zero n, masked_text n) (answer_start (text_of ws (14 - offset) n))
 
   pub packets_turn : (s p n : ℕ) → p < n → AtPacket s p n → AtPacket (after_word (after_word (after_word (after_word s (bit_and (get_or ws (p * 4) 0) (text_mask 2 offset))) (bit_and (get_or ws (p * 4 + 1) 0) (text_mask 6 offset))) (bit_and (get_or ws (p * 4 + 2) 0) (text_mask 10 offset))) (bit_and (get_or ws (p * 4 + 3) 0) (text_mask 14 offset))) (p + 1) n
@@ -119,6 +119,10 @@ module _ (ws : List ℕ) (offset : ℕ) where
       let first = masked (get_or ws (p * 4) 0) 2 offset ∙ ap (λ (k : ℕ). get_or ws k 0 % 2 ^ mask_bits (2 - offset)) (sym (add-zero (p * 4))) in
       rw (q, first, masked (get_or ws (p * 4 + 1) 0) 6 offset, masked (get_or ws (p * 4 + 2) 0) 10 offset, masked (get_or ws (p * 4 + 3) 0) 14 offset)
       (answer_word _ (masked_word ws offset p 3) _ (answer_word _ (masked_word ws offset p 2) _ (answer_word _ (masked_word ws offset p 1) _ (answer_word s (masked_word ws offset p 0) _ (rw m at st)))))
+
+  -- the same for what the code has: masks, words under them, and the number r after them
+  pub packet_passed : (s r p n : ℕ) (masks text : List ℕ) → p < n → masks ≡ text_masks offset → text ≡ text_words ws masks p → r ≡ after_word (after_word (after_word (after_word s (get_or text 0 0)) (get_or text 1 0)) (get_or text 2 0)) (get_or text 3 0) → AtPacket s p n → AtPacket r (p + 1) n
+  packet_passed s r p n masks text h m t e st = rw (e, t, m) (packets_turn s p n h st)
 
   pub packets_finish : (s p n : ℕ) → n ≤ p → AtPacket s p n → eqb (s % 0x100) 0 ≡ is_good (first_bad (text_of ws (14 - offset) n))
   unfolding nonzero

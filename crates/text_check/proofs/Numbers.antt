@@ -13,23 +13,23 @@ use Rattle.laws.proofs.Pick.{split, picked}
 use Rattle.counts.specs.Counts.{byte}
 use Rattle.counts.specs.declared.TextByteNumber.{TextByteNumber}
 use Rattle.utf8.specs.Utf8.{◌‥◌, inside, going, stopped, verdict_from}
-use Rattle.utf8.specs.Scan.{char_length, second_low, second_high, tails_due, second_due, after_first_byte, after_byte, due_ranges, meaning}
-use Rattle.utf8.specs.declared.scan.Scan.{Scan}
-use Rattle.utf8.specs.declared.scan.Scan.TheVariants.{Going, Stopped}
+use Rattle.std.specs.Prelude.{Ok, Err}
+use Rattle.utf8.specs.declared.scan.LastCharacter.{LastCharacter}
+use Rattle.utf8.specs.Scan.{Scan, char_length, second_low, second_high, tails_due, second_due, after_first_byte, after_byte, due_ranges, meaning}
 use Rattle.utf8.proofs.Valid.{verdict_stopped}
 use Rattle.text.specs.Octets.{octet_of}
-use Rattle.text_check.specs.FastCheck.{is_good, none_open, after_text_byte, scan_of, number_of, after_octets, after_word}
+use Rattle.text_check.specs.FastCheck.{is_good, none_open, after_text_byte, character_of, scan_of, number_of, after_octets, after_word}
 use Rattle.text_check.proofs.Places.{any_start}
 use Rattle.text_check.proofs.Progress.{WillAnswer, answer_octets, answer_end}
 
 -- ---- what the number can hold
 
 abbrev Narrow : Scan → Type 0
-Narrow (Stopped n) = Unit
-Narrow (Going due low high start) = (due < 0x100) × (0x80 ≤ low) × (low < 0x100) × (0x80 ≤ high) × (high < 0xC0)
+Narrow (Err n) = Unit
+Narrow (Ok c) = (c.due < 0x100) × (0x80 ≤ c.low) × (c.low < 0x100) × (0x80 ≤ c.high) × (c.high < 0xC0)
 
 narrow_scan : (s : ℕ) → Narrow (scan_of s)
-unfolding scan_of
+unfolding character_of
 narrow_scan s = (omega arith, omega arith, omega arith, omega arith, omega arith)
 
 low_narrow : (b : ℕ) → (0x80 ≤ second_low b) × (second_low b < 0x100)
@@ -40,17 +40,17 @@ high_narrow : (b : ℕ) → (0x80 ≤ second_high b) × (second_high b < 0xC0)
 unfolding second_high
 high_narrow b = picked (λ (n : ℕ). (0x80 ≤ n) × (n < 0xC0)) (eqb b 0xED) 0x9F (pick (eqb b 0xF4) 0x8F 0xBF) (λ e. (lit≤ tt, lit≤ tt)) (λ e. picked (λ (n : ℕ). (0x80 ≤ n) × (n < 0xC0)) (eqb b 0xF4) 0x8F 0xBF (λ f. (lit≤ tt, lit≤ tt)) (λ f. (lit≤ tt, lit≤ tt)))
 
-narrow_tails : (due : ℕ) (start : TextByteNumber) → due < 0x100 → Narrow (tails_due due start)
+narrow_tails : (due : ℕ) (start : TextByteNumber) → due < 0x100 → Narrow (Ok (tails_due due start))
 narrow_tails due start h = (h, lit≤ tt, lit≤ tt, lit≤ tt, lit≤ tt)
 
-narrow_second : (due b : ℕ) (start : TextByteNumber) → due < 0x100 → Narrow (second_due due b start)
+narrow_second : (due b : ℕ) (start : TextByteNumber) → due < 0x100 → Narrow (Ok (second_due due b start))
 narrow_second due b start h = (h, (low_narrow b).0, (low_narrow b).1, (high_narrow b).0, (high_narrow b).1)
 
 narrow_first : (at : TextByteNumber) (b : ℕ) → Narrow (after_first_byte at b)
 unfolding after_first_byte
 narrow_first at b = go (eqb (char_length b) 1) (eqb (char_length b) 2) (ltb b 0xC2) (eqb (char_length b) 3) (eqb (char_length b) 4) (ltb 0xF4 b)
   where
-    go : (one two low three four high : Bool) → Narrow (pick one (tails_due 0 at) (pick two (pick low (Stopped at) (tails_due 1 at)) (pick three (second_due 2 b at) (pick four (pick high (Stopped at) (second_due 3 b at)) (Stopped at)))))
+    go : (one two low three four high : Bool) → Narrow (pick one (Ok (tails_due 0 at)) (pick two (pick low (Err at) (Ok (tails_due 1 at))) (pick three (Ok (second_due 2 b at)) (pick four (pick high (Err at) (Ok (second_due 3 b at))) (Err at)))))
     go true two low three four high = narrow_tails 0 at (lit≤ tt)
     go false true true three four high = tt
     go false true false three four high = narrow_tails 1 at (lit≤ tt)
@@ -61,10 +61,10 @@ narrow_first at b = go (eqb (char_length b) 1) (eqb (char_length b) 2) (ltb b 0x
 
 narrow_byte : (k : Scan) (at : TextByteNumber) (b : ℕ) → Narrow k → Narrow (after_byte k at b)
 unfolding after_byte
-narrow_byte (Stopped n) at b h = tt
-narrow_byte (Going due low high start) at b h =
-    picked Narrow (eqb due 0) (after_first_byte at b) (pick (inside (low ‥ high) b) (tails_due (due - 1) start) (Stopped start)) (λ e. narrow_first at b)
-    (λ e. picked Narrow (inside (low ‥ high) b) (tails_due (due - 1) start) (Stopped start) (λ f. narrow_tails (due - 1) start (omega (arith, h.0))) (λ f. tt))
+narrow_byte (Err n) at b h = tt
+narrow_byte (Ok c) at b h =
+    picked Narrow (eqb c.due 0) (after_first_byte at b) (pick (inside (c.low ‥ c.high) b) (Ok (tails_due (c.due - 1) c.start)) (Err c.start)) (λ e. narrow_first at b)
+    (λ e. picked Narrow (inside (c.low ‥ c.high) b) (Ok (tails_due (c.due - 1) c.start)) (Err c.start) (λ f. narrow_tails (c.due - 1) c.start (omega (arith, h.0))) (λ f. tt))
 
 narrow_text : (k : Scan) (b : ℕ) → Narrow k → Narrow (after_text_byte k b)
 unfolding after_text_byte
@@ -84,22 +84,22 @@ waits [] = refl
 waits (x ∷ xs) = ap (λ (t : Bool). is_good (verdict_from (pick t (going [] 0) (stopped 0)) 1 xs)) (no_byte x) ∙ ap is_good (verdict_stopped 0 1 xs)
 
 -- the parts of the number give the scan back
-parts : (due low high : ℕ) (start : TextByteNumber) → Narrow (Going due low high start) →
-    let s = number_of (Going due low high start) in
-    (s % 0x100 ≡ due) × (0x80 + s / 0x100 % 0x80 ≡ low) × (0xBF - s / 0x10000 % 0x40 ≡ high)
+parts : (c : LastCharacter) → Narrow (Ok c) →
+    let s = number_of (Ok c) in
+    (s % 0x100 ≡ c.due) × (0x80 + s / 0x100 % 0x80 ≡ c.low) × (0xBF - s / 0x10000 % 0x40 ≡ c.high)
 unfolding number_of
-parts due low high start h =
-    let s = number_of (Going due low high start) in
-    let q : s / 0x100 ≡ (0x3F - high % 0x40) * 0x100 + low % 0x80 = omega (arith, h.0) in
-    let r : s / 0x10000 ≡ 0x3F - high % 0x40 = omega (arith, h.0) in
+parts c h =
+    let s = number_of (Ok c) in
+    let q : s / 0x100 ≡ (0x3F - c.high % 0x40) * 0x100 + c.low % 0x80 = omega (arith, h.0) in
+    let r : s / 0x10000 ≡ 0x3F - c.high % 0x40 = omega (arith, h.0) in
     (omega (arith, h.0), rw q (omega (arith, h.1, h.2)), rw r (omega (arith, h.3, h.4)))
 
 number_same : (k : Scan) (xs : List ℕ) → Narrow k → is_good (verdict_from (meaning (scan_of (number_of k))) 0 xs) ≡ is_good (verdict_from (meaning k) 0 xs)
-unfolding scan_of number_of
-number_same (Stopped n) xs h = waits xs ∙ sym (ap is_good (verdict_stopped n.0 0 xs))
-number_same (Going due low high start) xs h =
-    let p = parts due low high start h in
-    rw (p.0, p.1, p.2) (any_start xs (some (due_ranges due low high)) 0 start.0 0 0)
+unfolding character_of number_of
+number_same (Err n) xs h = waits xs ∙ sym (ap is_good (verdict_stopped n.0 0 xs))
+number_same (Ok c) xs h =
+    let p = parts c h in
+    rw (p.0, p.1, p.2) (any_start xs (some (due_ranges c.due c.low c.high)) 0 c.start.0 0 0)
 
 -- ---- what the check will answer from a number
 
@@ -110,10 +110,10 @@ answer_word s w xs h = record { answer = number_same (after_octets (scan_of s) w
 
 -- once the text is bad
 pub answer_bad : (s : ℕ) (xs : List ℕ) (v : Bool) → s ≡ 0x3F7F01 → WillAnswer (scan_of s) xs v → false ≡ v
-unfolding scan_of
+unfolding character_of
 answer_bad s xs v e st = sym (waits xs) ∙ ap (λ (n : ℕ). is_good (verdict_from (meaning (scan_of n)) 0 xs)) (sym e) ∙ st.answer
 
 -- at the end
 pub answer_last : (s : ℕ) (v : Bool) → WillAnswer (scan_of s) [] v → eqb (s % 0x100) 0 ≡ v
-unfolding scan_of none_open
+unfolding character_of none_open
 answer_last s v st = answer_end (scan_of s) v st

@@ -1,4 +1,5 @@
--- Whether a verdict is Good does not depend on the places that a check keeps. By induction on the bytes.
+-- Whether a verdict is Ok does not depend on the places that a check keeps. By induction on the bytes.
+use Rattle.std.specs.Prelude.{Result, Ok, Err}
 use Prim.Native.Nat.{ℕ, suc}
 use mathlib.Core.Path.{◌≡◌, refl, sym}
 use mathlib.Core.Bool.{Bool, true, false}
@@ -7,9 +8,8 @@ use mathlib.Core.List.{List, [], ◌∷◌}
 use Rattle.laws.specs.Pick.{pick}
 use Rattle.laws.proofs.Pick.{true_false}
 use Rattle.utf8.specs.Utf8.{Range, inside, due_after, State, going, stopped, start_char, verdict_from}
-use Rattle.utf8.specs.declared.Utf8.{Utf8}
-use Rattle.utf8.specs.declared.Utf8.TheVariants.{Good, BadAt}
 use Rattle.text_check.specs.FastCheck.{is_good}
+use Rattle.counts.specs.declared.TextByteNumber.{TextByteNumber}
 
 -- for two checks that differ in where the character started and in the number of the next byte
 pub any_start : (xs : List ℕ) (o : Option (List Range)) (n m at k : ℕ) → is_good (verdict_from (start_char o n) at xs) ≡ is_good (verdict_from (start_char o m) k xs)
@@ -29,6 +29,6 @@ pub any_place : (s : State) (xs : List ℕ) (at k : ℕ) → is_good (verdict_fr
 any_place (going ds n) xs at k = any_start xs (some ds) n n at k
 any_place (stopped n) xs at k = any_start xs none n n at k
 
-pub good_is : (u : Utf8) → is_good u ≡ true → Good ≡ u
-good_is Good e = refl
-good_is (BadAt n) e = true_false (sym e)
+pub good_is : (u : Result (Unit {0}) TextByteNumber) → is_good u ≡ true → (Ok tt) ≡ u
+good_is (Ok tt) e = refl
+good_is (Err n) e = true_false (sym e)

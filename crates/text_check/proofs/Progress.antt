@@ -9,11 +9,10 @@ use Rattle.laws.specs.Lists.{nonzero}
 use Rattle.laws.proofs.Pick.{true_false}
 use Rattle.counts.specs.Counts.{byte}
 use Rattle.utf8.specs.Utf8.{State, verdict_from, first_bad}
-use Rattle.utf8.specs.Scan.{new_scan, after_byte, meaning}
-use Rattle.utf8.specs.declared.scan.Scan.{Scan}
-use Rattle.utf8.specs.declared.scan.Scan.TheVariants.{Going, Stopped}
+use Rattle.std.specs.Prelude.{eqb, Ok, Err}
+use Rattle.utf8.specs.Scan.{Scan, new_scan, after_byte, meaning}
 use Rattle.counts.specs.declared.TextByteNumber.{TextByteNumber}
-use Rattle.utf8.proofs.Steps.{byte_law}
+use Rattle.utf8.proofs.Steps.{reached, byte_law}
 use Rattle.utf8.proofs.Valid.{verdict_stopped}
 use Rattle.text.specs.Octets.{octet_of}
 use Rattle.text.proofs.Back.{octet_small}
@@ -26,25 +25,31 @@ pub record WillAnswer (k : Scan) (xs : List ℕ) (v : Bool) : Type 0 where
 
 -- ---- the start and the end
 
-pub answer_start : (xs : List ℕ) → WillAnswer new_scan xs (is_good (first_bad xs))
+pub answer_start : (xs : List ℕ) → WillAnswer (Ok new_scan) xs (is_good (first_bad xs))
 unfolding first_bad
 answer_start xs = record { answer = refl }
 
-pub answer_stopped : (k : Scan) (n : TextByteNumber) (xs : List ℕ) (v : Bool) → k ≡ Stopped n → WillAnswer k xs v → false ≡ v
+pub answer_stopped : (k : Scan) (n : TextByteNumber) (xs : List ℕ) (v : Bool) → k ≡ Err n → WillAnswer k xs v → false ≡ v
 answer_stopped k n xs v e st = sym (ap is_good (verdict_stopped n.0 0 xs)) ∙ ap (λ (c : Scan). is_good (verdict_from (meaning c) 0 xs)) (sym e) ∙ st.answer
+
+due_end : (due low high : ℕ) (start : TextByteNumber) (v : Bool) → is_good (verdict_from (meaning (Ok (reached due low high start))) 0 []) ≡ v → eqb due 0 ≡ v
+due_end zero low high start v e = e
+due_end (suc d) low high start v e = rw eqb-suc-zero e
 
 pub answer_end : (k : Scan) (v : Bool) → WillAnswer k [] v → none_open k ≡ v
 unfolding none_open
-answer_end (Stopped n) v st = st.answer
-answer_end (Going zero low high start) v st = st.answer
-answer_end (Going (suc d) low high start) v st = rw eqb-suc-zero st.answer
+answer_end (Err n) v st = st.answer
+answer_end (Ok c) v st = due_end c.due c.low c.high c.start v st.answer
 
 -- where no character is open, the answer is the verdict on the remaining bytes
 pub answer_open : (k : Scan) (xs : List ℕ) → none_open k ≡ true → is_good (verdict_from (meaning k) 0 xs) ≡ is_good (first_bad xs)
 unfolding none_open first_bad
-answer_open (Stopped n) xs e = true_false (sym e)
-answer_open (Going zero low high start) xs e = any_start xs (some []) start.0 0 0 0
-answer_open (Going (suc d) low high start) xs e = true_false (sym (rw eqb-suc-zero at e))
+answer_open (Err n) xs e = true_false (sym e)
+answer_open (Ok c) xs e = due_open c.due c.low c.high c.start e
+  where
+    due_open : (due low high : ℕ) (start : TextByteNumber) → eqb due 0 ≡ true → is_good (verdict_from (meaning (Ok (reached due low high start))) 0 xs) ≡ is_good (verdict_from (meaning (Ok new_scan)) 0 xs)
+    due_open zero low high start q = any_start xs (some []) start.0 0 0 0
+    due_open (suc d) low high start q = true_false (sym (rw eqb-suc-zero at q))
 
 -- ---- a byte, kept or dropped if zero
 

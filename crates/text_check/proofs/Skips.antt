@@ -4,24 +4,20 @@ use mathlib.Core.Path.{◌≡◌, refl, sym, ◌∙◌}
 use mathlib.Core.Logic.{⊎_elim}
 use mathlib.Core.Bool.{Bool, true}
 use mathlib.Core.List.{List}
-use native.Mathlib.Nat.{add-zero}
 use native.Mathlib.Numerals.{add-one}
 use native.Mathlib.Omega.{arith}
-use lib.Dec.{lit≤}
 use lib.ListN.{length, get_or, drop, drop_of_length-le}
 use lib.Seq.{drop-cons}
-use Rattle.laws.proofs.Pick.{split, below}
-use Rattle.laws.proofs.EachBelow.{three_hold}
+use Rattle.laws.proofs.Pick.{below}
 use Rattle.counts.specs.Counts.{byte}
 use Rattle.utf8.specs.Utf8.{first_bad}
-use Rattle.utf8.specs.Scan.{after_byte}
-use Rattle.utf8.specs.declared.scan.Scan.{Scan}
+use Rattle.utf8.specs.Scan.{Scan, after_byte}
 use Rattle.text.specs.Octets.{octet_of}
 use Rattle.text.proofs.Back.{octet_word}
 use Rattle.text.specs.BigEndian.{big_endian_at}
 use Rattle.text.proofs.BigEndian.{big_endian_in}
-use Rattle.text_check.specs.FastCheck.{is_good, none_open, ascii_word, first_three, last_three, run_none_due, run_one_due, run_two_due, run_at, whole_characters, Skipped}
-use Rattle.text_check.proofs.KnownSteps.{tails, Leads, WordSteps, ascii_steps, none_due_steps, one_due_steps, two_due_steps, first_three_steps, last_three_steps}
+use Rattle.text_check.specs.FastCheck.{is_good, none_open, ascii_word, simple_character, run_none_due, run_one_due, run_two_due, Skipped}
+use Rattle.text_check.proofs.KnownSteps.{tails, Leads, WordSteps, ascii_steps, none_due_steps, one_due_steps, two_due_steps, simple_steps}
 use Rattle.text_check.proofs.Progress.{WillAnswer, answer_start, answer_end, answer_open, answer_keeping}
 
 module _ (text : List ℕ) (v : Bool) where
@@ -40,8 +36,12 @@ module _ (text : List ℕ) (v : Bool) where
   none_open_lem k i o st = sym (answer_open k (drop i text) o) ∙ st.answer
 
   module _ (small : (k : ℕ) → get_or text k 0 < 256) where
-    pub bytes_turn : (k : Scan) (i : ℕ) → i < length text → AtByte k i → AtByte (after_byte k (byte 0) (get_or text i 0)) (i + 1)
+    bytes_turn : (k : Scan) (i : ℕ) → i < length text → AtByte k i → AtByte (after_byte k (byte 0) (get_or text i 0)) (i + 1)
     bytes_turn k i h st = rw add-one (answer_keeping (get_or text i 0) (small i) (rw (drop-cons text i 0 h) at st))
+
+    -- the same for a result that is equal to that step
+    pub byte_turn : (k r : Scan) (i : ℕ) → i < length text → r ≡ after_byte k (byte 0) (get_or text i 0) → AtByte k i → AtByte r (i + 1)
+    byte_turn k r i h e st = rw e (bytes_turn k i h st)
 
     -- a byte after which a look tells how many tails are due
     known : (s t i : ℕ) → i < length text → after_byte (tails s) (byte 0) (get_or text i 0) ≡ tails t → AtByte (tails s) i → AtByte (tails t) (i + 1)
@@ -90,15 +90,15 @@ module _ (text : List ℕ) (v : Bool) where
       word_turn k st = last_turn k.second k.third k.fourth (first_turn k.first st)
 
 -- ---- `Skipped`: bytes that are whole characters
-pub skip_none : (text : List ℕ) (i : ℕ) → i ≤ length text → Skipped text i i
-skip_none text i h = record { forward = omega arith; in_bounds = h; same-verdict = refl }
 
-pub skip_more : {text : List ℕ} {i j k : ℕ} → Skipped text i j → Skipped text j k → Skipped text i k
-skip_more p q = record { forward = omega (arith, p.forward, q.forward); in_bounds = q.in_bounds; same-verdict = q.same-verdict ∙ p.same-verdict }
+-- the scan has read whole characters
+pub skip_read : (text : List ℕ) (k : Scan) (i j : ℕ) → i ≤ j → j ≤ length text → none_open k ≡ true → AtByte text (is_good (first_bad (drop i text))) k j → Skipped text i j
+skip_read text k i j f h o st = record { forward = f; in_bounds = h; same-verdict = none_open_lem text _ k j o st }
 
--- skipping whole characters keeps the answer
-pub skip_at : (text : List ℕ) (v : Bool) (k : Scan) (i j : ℕ) → none_open k ≡ true → Skipped text i j → AtByte text v k i → AtByte text v k j
-skip_at text v k i j o p st = open_none text v k j o (p.same-verdict ∙ none_open_lem text v k i o st)
+-- all bytes are whole characters
+pub all_skipped : (text : List ℕ) (i : ℕ) → length text ≤ i → Skipped text 0 i → true ≡ is_good (first_bad text)
+unfolding first_bad
+all_skipped text i h p = (rw (drop_of_length-le text h) at p.same-verdict)
 
 module _ (text : List ℕ) (small : (k : ℕ) → get_or text k 0 < 256) where
   start : (i : ℕ) → AtByte text (is_good (first_bad (drop i text))) (tails 0) i
@@ -113,18 +113,10 @@ module _ (text : List ℕ) (small : (k : ℕ) → get_or text k 0 < 256) where
     pub skip_four : ascii_word (big_endian_at text i) ≡ true → Skipped text i (i + 4)
     skip_four e = skipped_to i (i + 4) (omega arith) h (word_turn text _ small i h (ascii_steps (big_endian_at text i) e) (start i))
 
-    skip_three : first_three (big_endian_at text i) ≡ true → Skipped text i (i + 3)
+    pub skip_three : simple_character (octet_of (big_endian_at text i) 0) (octet_of (big_endian_at text i) 1) (octet_of (big_endian_at text i) 2) ≡ true → Skipped text i (i + 3)
     skip_three e =
-        let k = first_three_steps (big_endian_at text i) e in
+        let k = simple_steps (big_endian_at text i) 0 e in
         skipped_to i (i + 3) (omega arith) (omega arith) (three_turn text _ small i h k.0 k.1 k.2 (start i))
-
-    -- what one look at four bytes can skip
-    pub skip_word : Skipped text i (i + whole_characters (big_endian_at text i))
-    unfolding whole_characters
-    skip_word =
-        split (ascii_word (big_endian_at text i)) (λ e. rw e (skip_four e))
-        (λ e. split (first_three (big_endian_at text i)) (λ f. rw (e, f) (skip_three f))
-        (λ f. rw (e, f, add-zero i) (skip_none text i (omega arith))))
 
     -- the remaining one to three of the last four bytes, all ASCII
     last_ascii : ascii_word (big_endian_at text i) ≡ true → (Skipped text (i + 1) (i + 4)) × (Skipped text (i + 2) (i + 4)) × (Skipped text (i + 3) (i + 4))
@@ -143,25 +135,17 @@ module _ (text : List ℕ) (small : (k : ℕ) → get_or text k 0 < 256) where
         (λ (y : i + 3 ≤ from). let q : from ≡ i + 3 = omega arith in rw (q, sym e) t.2) (below from (i + 3))) (below from (i + 2))
 
     -- or one simple three-byte character
-    pub skip_last_three : (from n : ℕ) → i + 4 ≡ n → i + 1 ≡ from → last_three (big_endian_at text i) ≡ true → Skipped text from n
+    pub skip_last_three : (from n : ℕ) → i + 4 ≡ n → i + 1 ≡ from → simple_character (octet_of (big_endian_at text i) 1) (octet_of (big_endian_at text i) 2) (octet_of (big_endian_at text i) 3) ≡ true → Skipped text from n
     skip_last_three from n e f p =
-        let k = last_three_steps (big_endian_at text i) p in
+        let k = simple_steps (big_endian_at text i) 1 p in
         rw (sym e, sym f) (skipped_to (i + 1) (i + 4) (omega arith) h (last_turn text _ small i h k.0 k.1 k.2 (start (i + 1))))
 
   -- a run of four simple three-byte characters
-  pub skip_run : (i : ℕ) → i + 12 ≤ length text → run_at text i ≡ true → Skipped text i (i + 12)
-  unfolding run_at
-  skip_run i h e =
-      let t = three_hold (run_none_due (big_endian_at text i)) (run_two_due (big_endian_at text (i + 4))) (run_one_due (big_endian_at text (i + 8))) e in
+  pub skip_run : (i : ℕ) → i + 12 ≤ length text → run_none_due (big_endian_at text i) ≡ true → run_two_due (big_endian_at text (i + 4)) ≡ true → run_one_due (big_endian_at text (i + 8)) ≡ true → Skipped text i (i + 12)
+  skip_run i h e f g =
       let e₈ : i + 4 + 4 ≡ i + 8 = omega arith in
       let e₁₂ : i + 8 + 4 ≡ i + 12 = omega arith in
-      let first = word_turn text _ small i (omega arith) (none_due_steps _ t.0) (start i) in
-      let second = (rw e₈ at (word_turn text _ small (i + 4) (omega arith) (two_due_steps _ t.1) first)) in
-      let third = (rw e₁₂ at (word_turn text _ small (i + 8) (omega arith) (one_due_steps _ t.2) second)) in
+      let first = word_turn text _ small i (omega arith) (none_due_steps _ e) (start i) in
+      let second = (rw e₈ at (word_turn text _ small (i + 4) (omega arith) (two_due_steps _ f) first)) in
+      let third = (rw e₁₂ at (word_turn text _ small (i + 8) (omega arith) (one_due_steps _ g) second)) in
       skipped_to i (i + 12) (omega arith) h third
-
-pub whole_most : (w : ℕ) → whole_characters w ≤ 4
-unfolding whole_characters
-whole_most w =
-    split (ascii_word w) (λ e. rw e (lit≤ tt))
-    (λ e. split (first_three w) (λ f. rw (e, f) (lit≤ tt)) (λ f. rw (e, f) (lit≤ tt)))

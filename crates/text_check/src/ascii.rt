@@ -7,21 +7,13 @@ ghost use Rattle.text_check.specs.FastCheck.{ascii_word, ascii_words};
 pub(crate) fn ascii_word(w: u32) -> bool
     ensures { result ≡ ascii_word w }
 {
-    if w / 0x1000000 % 256 >= 128 {
-        return false;
-    }
-    if w / 0x10000 % 256 >= 128 {
-        return false;
-    }
-    if w / 0x100 % 256 >= 128 {
-        return false;
-    }
-    w % 256 < 128
+    let [a, b, c, d] = w.to_be_bytes();
+    a < 128 && b < 128 && c < 128 && d < 128
 }
 
 // The same for four words.
 pub(crate) fn ascii_words(a: u32, b: u32, c: u32, d: u32) -> bool
     ensures { result ≡ ascii_words a b c d }
 {
-    ascii_word(a) && (ascii_word(b) && (ascii_word(c) && ascii_word(d)))
+    ascii_word(a) && ascii_word(b) && ascii_word(c) && ascii_word(d)
 }

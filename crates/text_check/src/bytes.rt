@@ -1,96 +1,80 @@
 // The fast check of a text given as bytes, where a zero byte is a character. Whole characters are skipped several at a time by looks; the scan takes the rest byte by byte.
-ghost use Rattle.std.specs.Prelude.{◌≡◌, ◌+◌, ◌<◌, ◌≤◌, length, drop};
+ghost use Rattle.std.specs.Prelude.{◌≡◌, ℕ, ◌+◌, ◌<◌, ◌≤◌, length, drop, false, MatchOption};
 ghost use Rattle.utf8.specs.Utf8.{first_bad};
-ghost use Rattle.text_check.specs.FastCheck.{is_good, whole_characters, run_at, Skipped};
+ghost use Rattle.text_check.specs.FastCheck.{is_good, Skipped};
 
 use crate::ascii::ascii_word;
 use crate::by_scan::none_open;
-use crate::three_byte_runs::{first_three, last_three, run_none_due, run_one_due, run_two_due};
+use crate::three_byte_runs::{octets, run_none_due, run_one_due, run_two_due, simple_character};
 use counts::TextByteNumber;
 use text::big_endian::big_endian;
-use utf8::scan;
-use utf8::scan::Scan;
+use utf8::scan::LastCharacter;
 
-// How many octets at the start of w are whole characters: 4 if all are ASCII, 3 if they are one three-byte character. Returns 0 if this test cannot decide.
-#[tactic(auto, unfolding(crate::specs::FastCheck::whole_characters))]
-fn whole_characters(w: u32) -> usize
-    ensures { result ≡ whole_characters w }
+// 4 if the four bytes from byte i on are ASCII, otherwise 0. Here and below 0 is a count too: no byte is skipped.
+fn ascii_at(text: &[u8], i: usize) -> usize
+    requires { i + 4 ≤ length text.now }
+    ensures { Skipped text.now i (i + result) }
 {
-    if ascii_word(w) {
-        return 4;
+    if ascii_word(big_endian(text, i)) {
+        4
+    } else {
+        0
     }
-    if first_three(w) {
-        return 3;
-    }
-    0
 }
 
-// Skips whole characters from `from` on, by looking at four bytes at a time. Returns where it stopped.
-fn skip_by_words(text: &[u8], from: usize) -> usize
-    requires { from ≤ length text.now }
+// 12 if the twelve bytes from byte i on are four simple three-byte characters, otherwise 0.
+fn run_at(text: &[u8], i: usize) -> usize
+    requires { i + 12 ≤ length text.now }
+    ensures { Skipped text.now i (i + result) }
+{
+    if run_none_due(big_endian(text, i))
+        && run_two_due(big_endian(text, i + 4))
+        && run_one_due(big_endian(text, i + 8))
+    {
+        12
+    } else {
+        0
+    }
+}
+
+// 4 if the four bytes from byte i on are ASCII, 3 if they start with a simple three-byte character, otherwise 0.
+fn whole_at(text: &[u8], i: usize) -> usize
+    requires { i + 4 ≤ length text.now }
+    ensures { Skipped text.now i (i + result) }
+{
+    let w = big_endian(text, i);
+    let [a, b, c, _] = octets(w);
+    if ascii_word(w) {
+        4
+    } else if simple_character(a, b, c) {
+        3
+    } else {
+        0
+    }
+}
+
+// Skips whole characters from `from` on: `whole` says how many of the next LOOK bytes are whole characters, 0 if it cannot tell. Returns where it stopped. A turn goes on by several bytes, so it is no `for`.
+fn skip<const LOOK: usize, F: Fn(&[u8], usize) -> usize>(
+    text: &[u8],
+    from: usize,
+    whole: F,
+) -> usize
+    requires start { from ≤ length text.now }
+    requires callable { (i : ℕ) → i + LOOK ≤ length text.now → F.pre whole text i }
+    requires skipped { (i k : ℕ) → i + LOOK ≤ length text.now → F.post whole text i k → Skipped text.now i (i + k) }
     ensures { Skipped text.now from result }
 {
-    if text.len() < 4 {
+    if text.len() < LOOK {
         return from;
     }
-    let last = text.len() - 4;
+    let last = text.len() - LOOK;
     let mut i = from;
     while i <= last {
-        let k = whole_characters(big_endian(text, i));
+        let k = whole(text, i);
         if k == 0 {
             return i;
         }
         i += k;
-    }
-    i
-}
-
-// Skips ASCII bytes from `from` on, four at a time. Returns where it stopped.
-fn skip_ascii(text: &[u8], from: usize) -> usize
-    requires { from ≤ length text.now }
-    ensures { Skipped text.now from result }
-{
-    if text.len() < 4 {
-        return from;
-    }
-    let last = text.len() - 4;
-    let mut i = from;
-    while i <= last {
-        if ascii_word(big_endian(text, i)) {
-            i += 4;
-        } else {
-            return i;
-        }
-    }
-    i
-}
-
-// Whether the twelve bytes from byte i on are four simple three-byte characters.
-#[tactic(auto, unfolding(crate::specs::FastCheck::run_at))]
-fn run_at(text: &[u8], i: usize) -> bool
-    requires { i + 12 ≤ length text.now }
-    ensures { result ≡ run_at text.now i }
-{
-    run_none_due(big_endian(text, i))
-        && (run_two_due(big_endian(text, i + 4)) && run_one_due(big_endian(text, i + 8)))
-}
-
-// Skips runs of four simple three-byte characters. Returns where it stopped.
-fn skip_runs(text: &[u8], from: usize) -> usize
-    requires { from ≤ length text.now }
-    ensures { Skipped text.now from result }
-{
-    if text.len() < 12 {
-        return from;
-    }
-    let last = text.len() - 12;
-    let mut i = from;
-    while i <= last {
-        if run_at(text, i) {
-            i += 12;
-        } else {
-            return i;
-        }
     }
     i
 }
@@ -101,20 +85,15 @@ fn skip_last(text: &[u8], from: usize) -> usize
     ensures { Skipped text.now from result }
 {
     let n = text.len();
-    if n <= from {
-        return from;
-    }
-    if n < 4 {
-        return from;
-    }
-    if 3 < n - from {
+    if n <= from || n < 4 || 3 < n - from {
         return from;
     }
     let w = big_endian(text, n - 4);
     if ascii_word(w) {
         return n;
     }
-    if n - from == 3 && last_three(w) {
+    let [_, b, c, d] = octets(w);
+    if n - from == 3 && simple_character(b, c, d) {
         return n;
     }
     from
@@ -124,38 +103,39 @@ fn skip_last(text: &[u8], from: usize) -> usize
 fn skip_whole(text: &[u8]) -> usize
     ensures { Skipped text.now 0 result }
 {
-    let i = skip_runs(text, skip_ascii(text, 0));
-    skip_last(text, skip_by_words(text, i))
+    let past_ascii = skip::<4, _>(text, 0, ascii_at);
+    let past_runs = skip::<12, _>(text, past_ascii, run_at);
+    skip_last(text, skip::<4, _>(text, past_runs, whole_at))
 }
 
-// Whether the text from byte `from` on is UTF-8. A character must start there. No place is kept, so each byte is taken as byte 0.
-fn is_good_from(text: &[u8], from: usize) -> bool
-    requires { from ≤ length text.now }
-    ensures { result ≡ is_good (first_bad (drop from text.now)) }
+// The byte after the character that starts at byte `from`, or `None` if none starts there. No place is kept, so each byte is taken as byte 0.
+fn past_character(text: &[u8], from: usize) -> Option<usize>
+    requires { from < length text.now }
+    ensures { MatchOption result (is_good (first_bad (drop from text.now)) ≡ false) (λ next. (from < next) × Skipped text.now from next) }
 {
-    let mut s = scan::new_scan();
-    let mut i = from;
-    while i < text.len() {
-        s = scan::after_byte(s, TextByteNumber(0), text[i]);
-        if let Scan::Stopped(_) = s {
-            return false;
+    let mut last = LastCharacter::before_text();
+    for i in from..text.len() {
+        let Ok(next) = last.after_byte(TextByteNumber(0), text[i]) else {
+            return None;
+        };
+        if none_open(next) {
+            return Some(i + 1);
         }
-        i += 1;
-        if none_open(s) {
-            i = skip_by_words(text, i);
-        }
+        last = next;
     }
-    none_open(s)
+    None
 }
 
-// Whether the text is UTF-8.
-#[tactic(auto, unfolding(crate::specs::FastCheck::none_open))]
+// Whether the text is UTF-8. A turn goes on by several bytes, so it is no `for`.
 pub(crate) fn is_good(text: &[u8]) -> bool
     ensures { result ≡ is_good (first_bad text.now) }
 {
-    let i = skip_whole(text);
-    if i == text.len() {
-        return true;
+    let mut i = skip_whole(text);
+    while i < text.len() {
+        let Some(next) = past_character(text, i) else {
+            return false;
+        };
+        i = skip::<4, _>(text, next, whole_at);
     }
-    is_good_from(text, i)
+    true
 }

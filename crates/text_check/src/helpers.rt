@@ -3,7 +3,7 @@ ghost use Rattle.std.specs.Prelude.{◌≡◌};
 ghost use Rattle.text_check.specs.FastCheck.{ascii_packet};
 
 use crate::ascii::ascii_words;
-use crate::words::text_mask;
+use crate::words::{text_masks, text_words};
 use counts::{PacketNumber, WordNumber};
 
 // Whether a packet exists and its text is all ASCII or zero.
@@ -15,12 +15,6 @@ pub fn ascii_packet(words: &[u32], offset: usize, packet: PacketNumber) -> bool
     if packets.0 <= packet.0 {
         return false;
     }
-    let first = counts::first_word(packet);
-    let k = first.0;
-    ascii_words(
-        words[k] & text_mask(2, offset),
-        words[k + 1] & text_mask(6, offset),
-        words[k + 2] & text_mask(10, offset),
-        words[k + 3] & text_mask(14, offset),
-    )
+    let [a, b, c, d] = text_words(words, text_masks(offset), packet);
+    ascii_words(a, b, c, d)
 }

@@ -6,7 +6,7 @@ ghost use Rattle.utf8.specs.Utf8.{first_bad};
 ghost use Rattle.text.specs.Bytes.{text_of};
 ghost use Rattle.text_check.specs.FastCheck.{is_good};
 
-use utf8::Utf8;
+use counts::TextByteNumber;
 
 mod ascii;
 mod by_byte;
@@ -24,21 +24,21 @@ pub fn good_text(words: &[u32], offset: usize) -> bool
 }
 
 // Whether the text of the whole packets is UTF-8; if not, where its first bad character starts.
-pub fn check_text(words: &[u32], offset: usize) -> Utf8
+pub fn check_text(words: &[u32], offset: usize) -> Result<(), TextByteNumber>
     ensures { result ≡ first_bad (text_of words.now (14 - offset) (length words.now / 4)) }
 {
     if good_text(words, offset) {
-        return Utf8::Good;
+        return Ok(());
     }
     by_byte::check_text(words, offset)
 }
 
 // Whether a text is UTF-8; if not, where its first bad character starts. The same answer as `utf8::check_utf8`, but faster.
-pub fn check_utf8(text: &[u8]) -> Utf8
+pub fn check_utf8(text: &[u8]) -> Result<(), TextByteNumber>
     ensures { result ≡ first_bad text.now }
 {
     if bytes::is_good(text) {
-        return Utf8::Good;
+        return Ok(());
     }
     utf8::check_utf8(text)
 }

@@ -6,14 +6,15 @@ use native.Mathlib.Nat.{mul-le-mul_left}
 use native.Mathlib.Omega.{arith}
 use lib.ListN.{length, drop}
 use borrow.Author.Tests.{le-leb, lt-leb}
+use Rattle.std.specs.Prelude.{Ok, Err}
 use Rattle.laws.proofs.Lists.{nonzero-length}
 use Rattle.counts.specs.Counts.{byte}
 use Rattle.text.specs.Bytes.{all_bytes, text_of}
 use Rattle.text.proofs.Place.{length_all}
 use Rattle.ascii_lines.specs.Page.{Wrote}
 use Rattle.ascii_lines.proofs.Room.{room}
-use Rattle.text_copy.specs.declared.TextCopy.TheVariants as C
-use Rattle.text_copy.specs.Copied.{copy_text}
+use Rattle.text_copy.specs.declared.NotCopied.TheVariants as N
+use Rattle.text_copy.specs.Copied.{Copying, copy_text}
 
 -- a text is at most as long as its packets are full
 pub text_most : (ws : List ℕ) (offset n : ℕ) → length (text_of ws (14 - offset) n) ≤ n * 14
@@ -22,12 +23,12 @@ text_most ws offset n =
     omega (arith, nonzero-length (all_bytes ws (14 - offset) n), length_all ws (14 - offset) n, m)
 
 module _ (t out : List ℕ) where
-  pub copied : {j : ℕ} {after : List ℕ} → length t ≤ length out → Wrote 0 out t j after → (C.Copied (byte j) ≡ (copy_text t out).answer) × (after ≡ (copy_text t out).bytes)
+  pub copied : {j : ℕ} {after : List ℕ} → length t ≤ length out → Wrote 0 out t j after → (Ok (byte j) ≡ (copy_text t out).answer) × (after ≡ (copy_text t out).bytes)
   copied h w =
       let r = room w (omega arith) in
       let e : 0 + length t ≡ length t = omega arith in
       rw (le-leb (length t) (length out) h)
-      (ap (λ (n : ℕ). C.Copied (byte n)) (r.next ∙ e), r.whole ∙ ap (λ (n : ℕ). t ++ drop n out) e)
+      (ap (λ (n : ℕ). let a : Copying = Ok (byte n) in a) (r.next ∙ e), r.whole ∙ ap (λ (n : ℕ). t ++ drop n out) e)
 
-  pub no_room : length out < length t → (C.NoRoom (byte (length t)) ≡ (copy_text t out).answer) × (out ≡ (copy_text t out).bytes)
+  pub no_room : length out < length t → (Err (N.NoRoom (byte (length t))) ≡ (copy_text t out).answer) × (out ≡ (copy_text t out).bytes)
   no_room h = rw (lt-leb (length t) (length out) h) (refl, refl)

@@ -1,46 +1,79 @@
 -- The text of packets, word by word: the octets without zeros of each packet's words, the first of them cut to its text. Proved from the bytes of a packet.
 use Prim.Native.Nat.{ℕ, zero, suc, ◌+◌, ◌-◌, ◌*◌, ◌/◌, ◌%◌, ◌^◌, ◌<◌, ◌≤◌}
-use mathlib.Core.Path.{◌≡◌, sym, ap, ap₂, ◌∙◌}
-use mathlib.Core.List.{List, [], ◌∷◌, ◌++◌}
-use native.Mathlib.Nat.{add-zero, zero-add, zero-mul, sub-zero}
+use mathlib.Core.Path.{◌≡◌, refl, sym, ap, ap₂, ◌∙◌}
+use mathlib.Core.List.{List, [], ◌∷◌, ◌++◌, append_assoc}
+use native.Mathlib.Nat.{div-one, add-zero, zero-add, zero-mul, sub-zero}
 use native.Mathlib.Omega.{arith}
-use lib.ListN.{length, get_or, set, length-append, length-set}
+use lib.ListN.{length, get_or, drop, length-append, drop_of_length-le}
+use lib.Seq.{drop-cons, sets-eq}
+use mathlib.Core.Bool.{Bool, true, false}
+use native.Mathlib.Numerals.{add-one}
+use Rattle.laws.specs.Pick.{pick}
+use Rattle.laws.proofs.Pick.{true_false}
+use Rattle.std.specs.Prelude.{◌==◌, not, cond, ◌&&◌}
+use Rattle.std.specs.List.{count_by, list_all}
+use Rattle.std.proofs.lemmas.List.Recursion.{is_count_by}
 use Rattle.laws.specs.Lists.{tabulate, nonzero}
 use Rattle.laws.proofs.Lists.{nonzero-none, nonzero-append, nonzero_zero, nonzero_kept, tabulate-same}
 use Rattle.text.specs.Octets.{octet_of}
 use Rattle.text.specs.Bytes.{text_byte, all_bytes, text_of}
 use Rattle.text.proofs.Bytes.{bytes_from, bytes_packet}
+use Rattle.text_copy.specs.Words.{octets_of, first_text, text_words_at, packet_text}
+use borrow.Rule.Slice.PartMut.{put_mid, Post-is}
 use Rattle.ascii_lines.specs.Page.{Wrote}
-use Rattle.ascii_lines.proofs.Page.{◌⨾◌, put_here}
-use Rattle.text_copy.specs.Words.{four_of, octets_of, first_text, text_words_at, packet_text}
-use Rattle.text_copy.specs.declared.words.Octets.{Octets}
+use Rattle.ascii_lines.proofs.FromLast.{whole}
+use Rattle.std.specs.Int.{w32, to_be_bytes}
 
 -- ---- zeros dropped from four parts of a list are dropped from the whole
 pub four_joined : (a b c d : List ℕ) → nonzero a ++ nonzero b ++ nonzero c ++ nonzero d ≡ nonzero (a ++ b ++ c ++ d)
 four_joined a b c d = rw (nonzero-append (a ++ b ++ c) d, nonzero-append (a ++ b) c, nonzero-append a b)
 
--- four octets that are not zero all stay
-pub none_zero : (a b c d : ℕ) → (a ≡ 0 → ⊥) → (b ≡ 0 → ⊥) → (c ≡ 0 → ⊥) → (d ≡ 0 → ⊥) → nonzero (a ∷ b ∷ c ∷ d ∷ []) ≡ a ∷ b ∷ c ∷ d ∷ []
-none_zero a b c d p q r s =
-    rw (nonzero_kept a (b ∷ c ∷ d ∷ []) p, nonzero_kept b (c ∷ d ∷ []) q, nonzero_kept c (d ∷ []) r, nonzero_kept d [] s, nonzero-none)
+-- the library's bytes of a word, the highest first, are its octets
+pub be_octets : (w : ℕ) → to_be_bytes w32 w ≡ octets_of w
+unfolding octet_of
+be_octets w = rw div-one
 
--- the octets of a word as a list
-pub listed : (o : Octets) (w : ℕ) → o ≡ four_of w → o.0 ∷ o.1 ∷ o.2 ∷ o.3 ∷ [] ≡ octets_of w
-listed o w e = rw e
+-- four octets in their place in a page are all of them written
+pub four_here : (i : ℕ) (o u : List ℕ) → length u ≡ 4 → i + 4 ≤ length o → Wrote i o u (i + 4) (put_mid i (i + 4 - i) o u)
+four_here i o u n h =
+    let w = whole o u i (sym (sets-eq u o i (omega arith))) (omega arith) in
+    rw (Post-is i (i + 4) o (omega arith), ← append_assoc) (rw n at w)
+
+-- what is left of some octets at a place without zeros
+module _ (xs : List ℕ) (i : ℕ) (h : i < length xs) where
+  pub octet_more : (get_or xs i 0 ≡ 0 → ⊥) → nonzero (drop i xs) ≡ (get_or xs i 0 ∷ []) ++ nonzero (drop (i + 1) xs)
+  octet_more n = rw (add-one, drop-cons xs i 0 h) (nonzero_kept _ _ n)
+
+  pub octet_none : get_or xs i 0 ≡ 0 → nonzero (drop i xs) ≡ nonzero (drop (i + 1) xs)
+  octet_none e = rw (add-one, drop-cons xs i 0 h) (nonzero_zero _ _ e)
+
+pub octets_none : (xs : List ℕ) (i : ℕ) → length xs ≤ i → nonzero (drop i xs) ≡ []
+octets_none xs i h = rw (drop_of_length-le xs h) nonzero-none
+
+-- how many octets of a word are not zero
+nonzero_count : (xs : List ℕ) → length (nonzero xs) ≡ count_by (λ x. not (x == 0)) xs
+unfolding nonzero
+nonzero_count = is_count_by (λ l. length (nonzero l)) (λ x. not (x == 0)) refl (λ x xs. go x xs (x == 0))
+  where
+    go : (x : ℕ) (xs : List ℕ) (b : Bool) → length (pick b (nonzero xs) (x ∷ nonzero xs)) ≡ cond (not b) (1 + length (nonzero xs)) (length (nonzero xs))
+    go x xs true = refl {A = ℕ}
+    go x xs false = omega arith
+
+pub word_count : (w : ℕ) → count_by (λ x. not (x == 0)) (to_be_bytes w32 w) ≡ length (nonzero (octets_of w))
+word_count w = sym (nonzero_count _) ∙ ap (λ (o : List ℕ). length (nonzero o)) (be_octets w)
+
+-- octets of which none is zero all stay
+pub none_zero : (xs : List ℕ) → list_all (λ x. not (x == 0)) xs ≡ true → nonzero xs ≡ xs
+unfolding nonzero
+none_zero [] h = refl
+none_zero (x ∷ xs) h = kept x xs (none_zero xs) (x == 0) h
+  where
+    kept : (x : ℕ) (xs : List ℕ) → (list_all (λ x. not (x == 0)) xs ≡ true → nonzero xs ≡ xs) → (b : Bool) → not b && list_all (λ x. not (x == 0)) xs ≡ true → pick b (nonzero xs) (x ∷ nonzero xs) ≡ x ∷ xs
+    kept x xs r false h = ap (λ (l : List ℕ). x ∷ l) (r h)
+    kept x xs r true h = true_false (sym h)
 
 pub four_lengths : (a b c d : List ℕ) → length a + length b + length c + length d ≡ length (a ++ b ++ c ++ d)
 four_lengths a b c d = rw (length-append, length-append, length-append)
-
--- four stores in a row put four octets
-pub put_four_here : (i : ℕ) (o : List ℕ) (a b c d : ℕ) → i + 4 ≤ length o → Wrote i o (a ∷ b ∷ c ∷ d ∷ []) (i + 4) (set (set (set (set o i a) (i + 1) b) (i + 2) c) (i + 3) d)
-put_four_here i o a b c d h =
-    let p : i + 1 + 1 ≡ i + 2 = omega arith in
-    let q : i + 2 + 1 ≡ i + 3 = omega arith in
-    let r : i + 3 + 1 ≡ i + 4 = omega arith in
-    put_here i o a (omega arith)
-    ⨾ rw p at (put_here (i + 1) (set o i a) b (rw length-set (omega arith)))
-    ⨾ rw q at (put_here (i + 2) (set (set o i a) (i + 1) b) c (rw (length-set, length-set) (omega arith)))
-    ⨾ rw r at (put_here (i + 3) (set (set (set o i a) (i + 1) b) (i + 2) c) d (rw (length-set, length-set, length-set) (omega arith)))
 
 -- ---- the first word of a packet, with text from octet 2 or from octet 3 on
 first_from_2 : (w : ℕ) → nonzero (octets_of (first_text w 0)) ≡ nonzero (octet_of w 2 ∷ octet_of w 3 ∷ [])

@@ -3,13 +3,9 @@ use Rattle.std.specs.Prelude.{ℕ, ◌+◌, ◌*◌, ◌%◌, List, [], ◌∷�
 use Rattle.laws.specs.Pick.{pick}
 use Rattle.laws.specs.Lists.{nonzero}
 use Rattle.text.specs.Octets.{octet_of}
-use Rattle.text_copy.specs.declared.words.Octets.{Octets}
-use Rattle.text_copy.specs.declared.words.TextWords.{TextWords}
+use Rattle.records.specs.declared.packet.Packet.{Packet}
 
--- the four octets of a word, the highest first; the same as a list
-abbrev pub four_of : ℕ → Octets
-four_of w = record { 0 = octet_of w 0; 1 = octet_of w 1; 2 = octet_of w 2; 3 = octet_of w 3 }
-
+-- the four octets of a word, the highest first
 abbrev pub octets_of : ℕ → List ℕ
 octets_of w = octet_of w 0 ∷ octet_of w 1 ∷ octet_of w 2 ∷ octet_of w 3 ∷ []
 
@@ -17,8 +13,8 @@ octets_of w = octet_of w 0 ∷ octet_of w 1 ∷ octet_of w 2 ∷ octet_of w 3 �
 unfoldable pub first_text : ℕ → ℕ → ℕ
 first_text w offset = pick (eqb offset 0) (w % 0x10000) (w % 0x100)
 
--- the four words of packet p, with zeros in place of what is not text
-abbrev pub text_words_at : List ℕ → ℕ → ℕ → TextWords
+-- packet p, with zeros in place of what is not text
+abbrev pub text_words_at : List ℕ → ℕ → ℕ → Packet
 text_words_at ws offset p =
     record {
       0 = first_text (get_or ws (p * 4) 0) offset;
@@ -27,6 +23,6 @@ text_words_at ws offset p =
       3 = get_or ws (p * 4 + 3) 0;
     }
 
--- the octets of four words without zeros
-abbrev pub packet_text : TextWords → List ℕ
+-- the octets of a packet's words without zeros
+abbrev pub packet_text : Packet → List ℕ
 packet_text t = nonzero (octets_of t.0) ++ nonzero (octets_of t.1) ++ nonzero (octets_of t.2) ++ nonzero (octets_of t.3)

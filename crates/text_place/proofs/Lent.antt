@@ -1,4 +1,5 @@
 -- One place lent again and again gives the bytes of the text, then the end every time. From the laws of crate `text`, for capacity 13 and 14.
+use Rattle.std.specs.Prelude.{Option, Some, None}
 use Prim.Native.Nat.{ℕ, zero, suc, ◌+◌, ◌-◌, ◌*◌, ◌/◌, ◌<◌, ◌≤◌}
 use mathlib.Core.Path.{◌≡◌, refl, sym, ap, ◌∙◌}
 use mathlib.Core.Bool.{true}
@@ -15,8 +16,6 @@ use Rattle.laws.proofs.Pick.{here, past, split}
 use Rattle.text.specs.Place.{stepped}
 use Rattle.text.specs.Handed.{start_place, end_place, handed, place_after, HandsOut, none, more}
 use Rattle.text.specs.declared.TextPlace.{TextPlace}
-use Rattle.text.specs.declared.TextStep.{TextStep}
-use Rattle.text.specs.declared.TextStep.TheVariants.{Byte, End}
 use Rattle.text.specs.declared.Stepped.{Stepped}
 use Rattle.text.proofs.Place.{step_past, step_over, stays, hands_all, handed_all, end_after, end_within, end_stays}
 use Rattle.kinds.specs.declared.kind.Kind.{Kind}
@@ -50,26 +49,26 @@ row_capacity k h = eqb-true _ _ (rw (lt-ltb 0 (capacity_of k) h) at (at_kind (λ
 module _ (ws : List ℕ) where
   -- ---- a place that is the end
   -- A PACKET NUMBER at or past the count, or A BYTE NUMBER at or past the capacity, is the end and does not move
-  pub past_packets : (at : TextPlace) → length ws / 4 ≤ at.packet.0 → next_byte ws at ≡ stepped End at
+  pub past_packets : (at : TextPlace) → length ws / 4 ≤ at.packet.0 → next_byte ws at ≡ stepped None at
   past_packets at h = step_past ws (capacity_here ws) at h
 
-  pub past_capacity : (at : TextPlace) → capacity_here ws ≤ at.byte.0 → next_byte ws at ≡ stepped End at
+  pub past_capacity : (at : TextPlace) → capacity_here ws ≤ at.byte.0 → next_byte ws at ≡ stepped None at
   past_capacity at h = step_over ws (capacity_here ws) at h
 
-  end_answers : (k : ℕ) (at : TextPlace) → next_byte ws at ≡ stepped End at → answers k ws at ≡ replicate k End
+  end_answers : (k : ℕ) (at : TextPlace) → next_byte ws at ≡ stepped None at → answers k ws at ≡ replicate k None
   unfolding answers
   end_answers zero at e = refl
-  end_answers (suc k) at e = rw e (ap (λ (l : List TextStep). End ∷ l) (end_answers k at e))
+  end_answers (suc k) at e = rw e (ap (λ (l : List (Option ℕ)). None ∷ l) (end_answers k at e))
 
   -- AFTER ANY END, wherever the place was, every call answers the end and leaves the place as it is
-  pub end_for_good : (at : TextPlace) → (next_byte ws at).step ≡ End → (k : ℕ)
-      → (answers k ws (next_byte ws at).place ≡ replicate k End) × (left_after k ws (next_byte ws at).place ≡ (next_byte ws at).place)
+  pub end_for_good : (at : TextPlace) → (next_byte ws at).step ≡ None → (k : ℕ)
+      → (answers k ws (next_byte ws at).place ≡ replicate k None) × (left_after k ws (next_byte ws at).place ≡ (next_byte ws at).place)
   end_for_good at t k =
       let e = end_stays ws (capacity_here ws) at t in
       (end_answers k (next_byte ws at).place e, stays ws (capacity_here ws) k (next_byte ws at).place e)
 
   -- INSIDE THE TEXT, a call that answers the end leaves the place at packet count, byte 0
-  pub end_here : (at : TextPlace) → at.packet.0 < length ws / 4 → at.byte.0 < capacity_here ws → (next_byte ws at).step ≡ End → next_byte ws at ≡ stepped End (end_place ws)
+  pub end_here : (at : TextPlace) → at.packet.0 < length ws / 4 → at.byte.0 < capacity_here ws → (next_byte ws at).step ≡ None → next_byte ws at ≡ stepped None (end_place ws)
   end_here at hp hb t = end_within ws (capacity_here ws) at hp hb t
 
   -- ---- from the start
@@ -81,14 +80,14 @@ module _ (ws : List ℕ) where
   pub lent_bytes : (n : ℕ) → length ws / 4 * capacity_here ws ≤ n → handed n ws (capacity_here ws) start_place ≡ text_here ws
   lent_bytes n h = handed_all ws (capacity_here ws) (positive ws) n h
 
-  answers_from : {at : TextPlace} {xs : List ℕ} → HandsOut ws (capacity_here ws) at xs → (k : ℕ) → answers (length xs + k) ws at ≡ map Byte xs ++ replicate k End
+  answers_from : {at : TextPlace} {xs : List ℕ} → HandsOut ws (capacity_here ws) at xs → (k : ℕ) → answers (length xs + k) ws at ≡ map Some xs ++ replicate k None
   unfolding answers map
   answers_from (none e) zero = refl
-  answers_from (none e) (suc k) = rw (zero-add (suc k), e) (ap (λ (l : List TextStep). End ∷ l) (end_answers k (end_place ws) (past_packets (end_place ws) (omega arith))))
-  answers_from (more {x = x} {xs = xs} e r) k = rw (suc-add (length xs) k, e) (ap (λ (l : List TextStep). Byte x ∷ l) (answers_from r k))
+  answers_from (none e) (suc k) = rw (zero-add (suc k), e) (ap (λ (l : List (Option ℕ)). None ∷ l) (end_answers k (end_place ws) (past_packets (end_place ws) (omega arith))))
+  answers_from (more {x = x} {xs = xs} e r) k = rw (suc-add (length xs) k, e) (ap (λ (l : List (Option ℕ)). Some x ∷ l) (answers_from r k))
 
   -- THE ANSWERS: the bytes of the text, then the end any number of times
-  pub lent_answers : (k : ℕ) → answers (length (text_here ws) + k) ws start_place ≡ map Byte (text_here ws) ++ replicate k End
+  pub lent_answers : (k : ℕ) → answers (length (text_here ws) + k) ws start_place ≡ map Some (text_here ws) ++ replicate k None
   lent_answers k = answers_from lent_all k
 
   one_more : (n : ℕ) (at : TextPlace) → left_after (suc n) ws at ≡ (next_byte ws (left_after n ws at)).place

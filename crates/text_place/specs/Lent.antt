@@ -1,9 +1,8 @@
 -- ONE TEXT PLACE LENT AGAIN AND AGAIN: the answers of the calls, and where they leave the place.
-use Rattle.std.specs.Prelude.{ℕ, zero, suc, ◌-◌, ◌/◌, List, [], ◌∷◌, length}
+use Rattle.std.specs.Prelude.{ℕ, zero, suc, ◌-◌, ◌/◌, List, [], ◌∷◌, length, Option}
 use Rattle.text.specs.Bytes.{text_of}
 use Rattle.text.specs.Handed.{place_after}
 use Rattle.text.specs.declared.TextPlace.{TextPlace}
-use Rattle.text.specs.declared.TextStep.{TextStep}
 use Rattle.standard.specs.Place.{offset_here, next_byte}
 
 -- the text bytes in a packet: 13 if the status of the first word is 0x12, otherwise 14
@@ -15,7 +14,7 @@ abbrev pub text_here : List ℕ → List ℕ
 text_here ws = text_of ws (capacity_here ws) (length ws / 4)
 
 -- the answers of n calls, each from where the one before left the place
-unfoldable pub answers : ℕ → List ℕ → TextPlace → List TextStep
+unfoldable pub answers : ℕ → List ℕ → TextPlace → List (Option ℕ)
 answers zero ws at = []
 answers (suc n) ws at = (next_byte ws at).step ∷ answers n ws (next_byte ws at).place
 

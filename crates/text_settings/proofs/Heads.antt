@@ -3,7 +3,6 @@ use Prim.Native.Nat.{ℕ, ◌+◌, ◌*◌}
 use mathlib.Core.Path.{◌≡◌}
 use mathlib.Core.List.{List, []}
 use native.Mathlib.Omega.{arith}
-use lib.ListN.{length, get_or, get_or-eq_default}
 use Rattle.laws.specs.Lists.{map}
 use Rattle.slots.specs.Slots.{get, put, put_all, those}
 use Rattle.kinds.specs.declared.kind.Kind.{Kind}
@@ -28,8 +27,3 @@ block-heads ws format = omega arith
 pub block_upper : (ws : List ℕ) → upper_of (block_head ws) ≡ 0xF012
 unfolding block_head
 block_upper ws = omega arith
-
--- ---- as the code finds it
-pub no_number : (ws : List ℕ) → length ws ≡ 0 → 0xF012_0000 ≡ block_head ws
-unfolding block_head
-no_number ws e = let d : get_or ws 0 0 ≡ 0 = get_or-eq_default ws 0 (omega arith) in rw d

@@ -1,4 +1,3 @@
-pub mod Plans
 pub mod Rows
 pub mod Heads
 pub mod Targets

@@ -1,5 +1,6 @@
 -- A setting of text, or of a number in each head, is the definition's by the row of the table. Closed by the target's two laws; a row's facts are computed.
-use Prim.Native.Nat.{ℕ, ◌+◌, ◌^◌, ◌<◌, ◌≤◌}
+use Rattle.std.specs.Prelude.{Result, Ok, Err}
+use Prim.Native.Nat.{ℕ, ◌+◌, ◌*◌, ◌^◌, ◌<◌, ◌≤◌}
 use mathlib.Core.Path.{◌≡◌, refl, sym, ap, ◌∙◌, fun_ext}
 use mathlib.Core.Bool.{Bool, true, false}
 use mathlib.Core.List.{List, [], ◌∷◌}
@@ -16,11 +17,10 @@ use Rattle.text.specs.Octets.{needed}
 use Rattle.text.specs.Written.{each_first}
 use Rattle.kinds.specs.declared.kind.Kind.{Kind}
 use Rattle.kinds.specs.declared.refusal.Refusal.TheVariants.{TooManyPackets, NotUtf8, NoRoom}
-use Rattle.kinds.specs.Fields.{Text, Field, Setting, field_in, same, decided}
+use Rattle.kinds.specs.declared.kind.Kind.TheVariants as K
+use Rattle.kinds.specs.Fields.{Number, Text, Field, Setting, field_in, same, decided}
 use Rattle.kinds.specs.Layout.{Part, Row, Body, fixed, texts, layout, capacity_in, capacity_of, has_text, is_text, slots_of, values_in, numbers_set}
 use Rattle.kinds.proofs.Rows.{every_kind}
-use Rattle.records.specs.declared.answers.Answer.{Answer}
-use Rattle.records.specs.declared.answers.Answer.TheVariants as A
 use Rattle.standard.specs.Heads.{packets_of}
 use Rattle.standard.specs.Reading.{is_bad}
 use Rattle.standard.specs.Walk.{walk_of}
@@ -32,12 +32,13 @@ use Rattle.buffer.proofs.Turns.{text_filled}
 use Rattle.table.specs.Places.{slot_at}
 use Rattle.reading.specs.Bodies.{offset_of}
 use Rattle.reading.proofs.TextRows.{text_capacity, offset_few}
-use Rattle.settings.specs.declared.helpers.Target.{Target}
-use Rattle.settings.specs.declared.helpers.Target.TheVariants as T
 use Rattle.settings.specs.Target.{target_of, settled}
 use Rattle.settings.proofs.Owned.{owned_by, own_has, Own, set-refused, set_own_lem}
 use Rattle.settings.proofs.Slots.{facts, plain, is_own, is_narrow, are_slots, answer_is, one}
-use Rattle.text_settings.specs.Texts.{room_of, plan_of, carried, text_on, each_put, each_on}
+use Rattle.text_settings.proofs.Heads.{plain_head, block-heads}
+use Rattle.text_settings.specs.Texts.{block_head, room_of, plan_of, carried, text_on, each_put, each_on}
+use Rattle.kinds.specs.declared.refusal.Refusal.{Refusal}
+use Rattle.counts.specs.declared.PacketNumber.{PacketNumber}
 
 -- ---- what the table says of a text and a kind, computed
 pub record Facts : Type 0 where
@@ -56,12 +57,12 @@ abbrev pub textual : Facts
 textual = record { own = true; is = true; has = true; slots = [] }
 
 -- refusals 11, 3 and 14
-abbrev text_answer : ℕ → List ℕ → ℕ → Answer
+abbrev text_answer : ℕ → List ℕ → ℕ → Result (Unit {0}) Refusal
 text_answer cap bytes room =
-    pick (is_bad (first_bad bytes)) (A.Refused NotUtf8)
-    (pick (ltb 64 (needed cap (length bytes))) (A.Refused TooManyPackets)
-    (pick (ltb room (needed cap (length bytes))) (A.Refused NoRoom)
-    A.Done))
+    pick (is_bad (first_bad bytes)) (Err NotUtf8)
+    (pick (ltb 64 (needed cap (length bytes))) (Err TooManyPackets)
+    (pick (ltb room (needed cap (length bytes))) (Err NoRoom)
+    (Ok tt)))
 
 text_acts : (b : Body) (r : Row) (t : Text) (n : ℕ) (bytes ws : List ℕ) → is_text (Field.text t) b ≡ true → act_in b r n (Setting.text t bytes) ws ≡ text_written r (capacity_in b) (values_in r.fields ws) bytes ws
 unfolding act_in
@@ -93,15 +94,15 @@ module _ (k : Kind) (t : Text) (head : ℕ) (bytes ws : List ℕ) (f : text_fact
       o.set ∙ split (is_bad (first_bad bytes)) (λ x. rw (a, x))
       (λ x. split (ltb 64 (needed (capacity_of k) (length bytes))) (λ y. rw (a, x, y))
       (λ y. split (ltb (packets_of ws) (needed (capacity_of k) (length bytes))) (λ z. rw (a, x, y, z))
-      (λ z. rw (a, x, y, z) (ap (outcome A.Done) (text_act n (ltb-false 64 _ y))))))
+      (λ z. rw (a, x, y, z) (ap (outcome (Ok tt)) (text_act n (ltb-false 64 _ y))))))
 
   pub set_text : set_on (Setting.text t bytes) ws ≡ text_on k head bytes ws
   unfolding text_on
   set_text = go (target_of (layout k).status (walk_of ws 0)) refl
     where
-      go : (x : Target) → target_of (layout k).status (walk_of ws 0) ≡ x → set_on (Setting.text t bytes) ws ≡ settled x (λ m. carried (plan_of bytes (capacity_of k) (packets_of ws)) (λ n. fill_text bytes (offset_of k) head n ws) ws) ws
-      go (T.Refused r) e = set-refused k (Setting.text t bytes) owned ws e
-      go (T.Packets n) e = own_text n.0 (set_own_lem k (Setting.text t bytes) owned ws e)
+      go : (x : (Result PacketNumber Refusal)) → target_of (layout k).status (walk_of ws 0) ≡ x → set_on (Setting.text t bytes) ws ≡ settled x (λ m. carried (plan_of bytes (capacity_of k) (packets_of ws)) (λ n. fill_text bytes (offset_of k) head n ws) ws) ws
+      go (Err r) e = set-refused k (Setting.text t bytes) owned ws e
+      go (Ok n) e = own_text n.0 (set_own_lem k (Setting.text t bytes) owned ws e)
 
 -- ---- A NUMBER IN EACH HEAD
 put_one : (s : Slot Part) (x : Part → ℕ) → s.word ≡ 0 → (w : ℕ) → put_word (s ∷ []) x w ≡ put_field w s.at s.span (x s.key)
@@ -135,7 +136,7 @@ module _ (k : Kind) (s : Setting) (i : ℕ) (ws : List ℕ) (f : facts k s ≡ p
   unfolding fits
   own_each n o =
       let a = answer_is k s (layout k).body (one k i) f ws n o in
-      o.set ∙ split (ltb value (2 ^ slot.span)) (λ x. rw (a, both_alone (ltb value (2 ^ slot.span)), x) (ap (outcome A.Done) (each_act n o.most (ltb-true _ _ x)))) (λ x. rw (a, both_alone (ltb value (2 ^ slot.span)), x))
+      o.set ∙ split (ltb value (2 ^ slot.span)) (λ x. rw (a, both_alone (ltb value (2 ^ slot.span)), x) (ap (outcome (Ok tt)) (each_act n o.most (ltb-true _ _ x)))) (λ x. rw (a, both_alone (ltb value (2 ^ slot.span)), x))
 
   pub set-each : set_on s ws ≡ each_on k i value ws
   unfolding each_on
@@ -144,6 +145,25 @@ module _ (k : Kind) (s : Setting) (i : ℕ) (ws : List ℕ) (f : facts k s ≡ p
       owner : owned_by k s ≡ true
       owner = is_own k s (layout k).body (one k i) f
 
-      go : (x : Target) → target_of (layout k).status (walk_of ws 0) ≡ x → set_on s ws ≡ settled x (λ n. each_put n slot value ws) ws
-      go (T.Refused r) q = set-refused k s owner ws q
-      go (T.Packets n) q = own_each n.0 (set_own_lem k s owner ws q)
+      go : (x : (Result PacketNumber Refusal)) → target_of (layout k).status (walk_of ws 0) ≡ x → set_on s ws ≡ settled x (λ n. each_put n slot value ws) ws
+      go (Err r) q = set-refused k s owner ws q
+      go (Ok n) q = own_each n.0 (set_own_lem k s owner ws q)
+
+-- the block number of a function block name
+pub block_put : (n : ℕ) (ws : List ℕ) → set_on (Setting.number Number.function_block n) ws ≡ each_on K.FunctionBlockName 0 n ws
+unfolding facts
+block_put n ws = set-each K.FunctionBlockName _ 0 ws refl refl refl refl
+
+-- ---- the three texts, with the heads that the code has
+module _ (bytes ws : List ℕ) where
+  pub name_put : set_on (Setting.text Text.endpoint_name bytes) ws ≡ text_on K.EndpointName (0xF000_0000 + (layout K.EndpointName).status * 0x1_0000) bytes ws
+  unfolding text_facts
+  name_put = set_text K.EndpointName _ _ bytes ws refl (plain_head K.EndpointName _ refl)
+
+  pub id_put : set_on (Setting.text Text.product_instance_id bytes) ws ≡ text_on K.ProductInstanceId (0xF000_0000 + (layout K.ProductInstanceId).status * 0x1_0000) bytes ws
+  unfolding text_facts
+  id_put = set_text K.ProductInstanceId _ _ bytes ws refl (plain_head K.ProductInstanceId _ refl)
+
+  pub block_name_put : set_on (Setting.text Text.function_block_name bytes) ws ≡ text_on K.FunctionBlockName (block_head ws) bytes ws
+  unfolding text_facts
+  block_name_put = set_text K.FunctionBlockName _ _ bytes ws refl (block-heads ws)

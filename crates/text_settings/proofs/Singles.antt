@@ -1,4 +1,5 @@
 -- A packet that is a whole message of plain text is the target that the walk finds. Closed by its head's fields, and what the pass sees of it.
+use Rattle.std.specs.Prelude.{Some, Ok}
 use Prim.Native.Nat.{ℕ, ◌+◌, ◌<◌, ◌≤◌}
 use mathlib.Core.Path.{◌≡◌, refl, sym, ap, ◌∙◌}
 use mathlib.Core.Bool.{true, false}
@@ -22,7 +23,6 @@ use Rattle.standard.specs.Walk.{walk_of}
 use Rattle.reading.specs.Bodies.{offset_of}
 use Rattle.reading.specs.OnePass.{head_bits, like_first, ends_at, headed_packets, seen_text}
 use Rattle.reading.proofs.Passes.{same_type, turn_ends, seen_good}
-use Rattle.settings.specs.declared.helpers.Target.TheVariants as T
 use Rattle.settings.specs.Target.{target_of}
 use Rattle.text_settings.specs.Texts.{upper_of, SingleHead, single_ascii}
 use Rattle.text_settings.proofs.Targets.{seen_target}
@@ -44,9 +44,9 @@ module _ (ws : List ℕ) (offset : ℕ) (long : 4 ≤ length ws) where
   unfolding like_first
   like_itself = rw (lt-leb (packets_of ws) 0 (omega arith)) (eq-eqb (head_bits (head_at ws 0) offset) (head_bits (head_at ws 0) offset) refl)
 
-  one_headed : type_of (head_at ws 0) ≡ stream_type → format_of (head_at ws 0) ≡ 0 → 1 ≡ headed_packets ws offset
+  one_headed : type_of (head_at ws 0) ≡ stream_type → format_of (head_at ws 0) ≡ 0 → Some (packet 1) ≡ headed_packets ws offset
   unfolding ends_at due_format
-  one_headed t f = same_type ws offset 1 t (sym (turn_ends ws offset 0 (lit≤ tt) like_itself (rw f refl) ∙ rw f refl))
+  one_headed t f = same_type ws offset (Some (packet 1)) t (sym (turn_ends ws offset 0 (lit≤ tt) like_itself (rw f refl) ∙ rw f refl))
 
   front_plain : ascii_packet ws offset 0 ≡ true → ascii_packet (take 4 ws) offset 0 ≡ true
   unfolding ascii_packet
@@ -56,13 +56,13 @@ module _ (ws : List ℕ) (offset : ℕ) (long : 4 ≤ length ws) where
       let b : leb (packets_of (take 4 ws)) 0 ≡ false = lt-leb (packets_of (take 4 ws)) 0 (omega (arith, l)) in
       rw (b, get_or-take 4 ws 0 0 (lit≤ tt), get_or-take 4 ws 1 0 (lit≤ tt), get_or-take 4 ws 2 0 (lit≤ tt), get_or-take 4 ws 3 0 (lit≤ tt)) (rw a at e)
 
-  one_seen : ascii_packet ws offset 0 ≡ true → headed_packets ws offset ≡ 1 → 1 ≡ seen_text ws offset
+  one_seen : ascii_packet ws offset 0 ≡ true → headed_packets ws offset ≡ Some (packet 1) → Some (packet 1) ≡ seen_text ws offset
   one_seen e h =
       let l = length-take-le 4 ws long in
-      seen_good ws offset 1 h (ap is_good (ascii_good (take 4 ws) offset (packets_of (take 4 ws)) (λ p i. let z : p ≡ 0 = omega (arith, l, i) in rw z (front_plain e))))
+      seen_good ws offset h (ap is_good (ascii_good (take 4 ws) offset (packets_of (take 4 ws)) (λ p i. let z : p ≡ 0 = omega (arith, l, i) in rw z (front_plain e))))
 
 -- A LONE PACKET IS THE TARGET
-pub single_target : (k : Kind) (ws : List ℕ) (head : ℕ) → SingleHead k head → single_ascii ws head ≡ true → T.Packets (packet 1) ≡ target_of (layout k).status (walk_of ws 0)
+pub single_target : (k : Kind) (ws : List ℕ) (head : ℕ) → SingleHead k head → single_ascii ws head ≡ true → Ok (packet 1) ≡ target_of (layout k).status (walk_of ws 0)
 unfolding single_ascii
 single_target k ws head own e =
     let other = differ (upper_of (get_or ws 0 0)) (upper_of head) in
@@ -71,5 +71,5 @@ single_target k ws head own e =
     let long = ltb-false _ _ a.0 in
     let upper : upper_of (get_or ws 0 0) ≡ 0xF000 + (layout k).status = differ_false _ _ b.0 ∙ own.upper in
     let small = status_small k in
-    let seen : 1 ≡ seen_text ws (offset_of k) = one_seen ws (offset_of k) long (ascii-later ws (offset_of k) 0 b.1) (sym (one_headed ws (offset_of k) long (whole_type _ _ upper small) (whole_format _ _ upper small))) in
-    seen_target k ws 1 (whole_status _ _ upper small) (rw own.text (sym seen)) (lit≤ tt)
+    let seen : Some (packet 1) ≡ seen_text ws (offset_of k) = one_seen ws (offset_of k) long (ascii-later ws (offset_of k) 0 b.1) (sym (one_headed ws (offset_of k) long (whole_type _ _ upper small) (whole_format _ _ upper small))) in
+    seen_target k ws (packet 1) (whole_status _ _ upper small) (rw own.text (sym seen))

@@ -1,5 +1,6 @@
 -- A message that one pass sees is the target that the walk finds. Closed by reading its own words, and the walk of what is well formed.
-use Prim.Native.Nat.{ℕ, ◌*◌, ◌≤◌, ◌<◌}
+use Rattle.std.specs.Prelude.{Some, Ok}
+use Prim.Native.Nat.{ℕ, ◌*◌, ◌≤◌}
 use mathlib.Core.Path.{◌≡◌, sym, ap, subst}
 use mathlib.Core.List.{List}
 use native.Mathlib.Omega.{arith}
@@ -8,8 +9,8 @@ use lib.ListN.{length, take}
 use lib.Seq.{length-take-le}
 use Rattle.laws.proofs.Pick.{past, eq_differ}
 use Rattle.counts.specs.Counts.{packet}
+use Rattle.counts.specs.declared.PacketNumber.{PacketNumber}
 use Rattle.kinds.specs.declared.kind.Kind.{Kind}
-use Rattle.kinds.specs.declared.kind.Known.TheVariants.{Is}
 use Rattle.kinds.specs.Layout.{layout, kind_of}
 use Rattle.kinds.proofs.Rows.{status_kind}
 use Rattle.records.specs.declared.message.Message.{Message}
@@ -23,30 +24,29 @@ use Rattle.standard.proofs.Formed.{read_formed}
 use Rattle.standard.proofs.Walks.{formed_walk}
 use Rattle.reading.specs.OnePass.{text_packets}
 use Rattle.reading.proofs.HeadedRead.{text_room, text_read}
-use Rattle.settings.specs.declared.helpers.Target.TheVariants as T
 use Rattle.settings.specs.Target.{own_in, target_of}
 
-module _ (k : Kind) (ws : List ℕ) (n : ℕ) (own : status_of (head_at ws 0) ≡ (layout k).status) (e : text_packets k ws ≡ n) (some : 0 < n) where
-  room : n * 4 ≤ length ws
-  room = text_room k ws n e some
+module _ (k : Kind) (ws : List ℕ) (n : PacketNumber) (own : status_of (head_at ws 0) ≡ (layout k).status) (e : text_packets k ws ≡ Some n) where
+  room : n.0 * 4 ≤ length ws
+  room = text_room k ws n e
 
   -- its own words
   abbrev front : List ℕ
-  front = take (n * 4) ws
+  front = take (n.0 * 4) ws
 
-  long : length front ≡ n * 4
-  long = length-take-le (n * 4) ws room
+  long : length front ≡ n.0 * 4
+  long = length-take-le (n.0 * 4) ws room
 
-  known : kind_of (status_of (head_at ws 0)) ≡ Is k
+  known : kind_of (status_of (head_at ws 0)) ≡ Some k
   known = rw own (status_kind k)
 
   abbrev message : Message
   message = message_at k front
 
   formed : Formed message (text_at (kind_in message) front) front
-  formed = read_formed front message (sym (text_read k ws n e some known))
+  formed = read_formed front message (sym (text_read k ws n e known))
 
-  packets : packets_in message ≡ n
+  packets : packets_in message ≡ n.0
   packets = let l = long in let w = formed.words in omega arith
 
   its_kind : kind_in message ≡ k
@@ -55,9 +55,9 @@ module _ (k : Kind) (ws : List ℕ) (n : ℕ) (own : status_of (head_at ws 0) �
   own_part : front ≡ part ws 0 (packets_in message)
   own_part = rw packets
 
-  pub seen_target : T.Packets (packet n) ≡ target_of (layout k).status (walk_of ws 0)
+  pub seen_target : Ok n ≡ target_of (layout k).status (walk_of ws 0)
   unfolding own_in
   seen_target =
       let p = packets in
       let w = formed_walk message (text_at (kind_in message) front) ws 0 (rw (packets, zero-add) room) (subst (λ (x : List ℕ). Formed message (text_at (kind_in message) front) x) own_part formed) in
-      rw w (past _ (eq_differ _ _ (ap (λ (x : Kind). (layout x).status) its_kind)) (ap (λ (x : ℕ). T.Packets (packet x)) (sym p)))
+      rw w (past _ (eq_differ _ _ (ap (λ (x : Kind). (layout x).status) its_kind)) (ap (λ (x : ℕ). Ok (packet x)) (sym p)))

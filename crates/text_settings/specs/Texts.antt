@@ -1,5 +1,5 @@
 -- Text set on words: what the target refuses, then 11, 3 and 14; else the text is written into the packets that it needs. And a number set in the head of each packet.
-use Rattle.std.specs.Prelude.{ℕ, ◌+◌, ◌*◌, ◌/◌, ◌^◌, ◌≡◌, Bool, true, false, List, length, get_or, ltb}
+use Rattle.std.specs.Prelude.{ℕ, ◌+◌, ◌*◌, ◌/◌, ◌^◌, ◌≡◌, Bool, true, false, List, length, get_or, ltb, Result, Ok, Err}
 use Rattle.laws.specs.Pick.{pick, differ}
 use Rattle.laws.specs.Bits.{field_of}
 use Rattle.slots.specs.Slots.{Slot}
@@ -10,7 +10,6 @@ use Rattle.text_check.specs.FastCheck.{ascii_packet}
 use Rattle.kinds.specs.declared.kind.Kind.{Kind}
 use Rattle.kinds.specs.Layout.{Part, layout, capacity_of, has_text}
 use Rattle.kinds.specs.declared.refusal.Refusal.TheVariants.{TooManyPackets, NotUtf8, NoRoom}
-use Rattle.records.specs.declared.answers.Answer.TheVariants as A
 use Rattle.standard.specs.Heads.{head_word, packets_of}
 use Rattle.standard.specs.Reading.{is_bad}
 use Rattle.standard.specs.Walk.{walk_of}
@@ -21,8 +20,8 @@ use Rattle.table.specs.Places.{slot_at}
 use Rattle.reading.specs.Bodies.{offset_of}
 use Rattle.settings.specs.Target.{target_of, settled}
 use Rattle.settings.specs.Fixed.{fitted}
-use Rattle.text_settings.specs.declared.texts.Plan.{Plan}
-use Rattle.text_settings.specs.declared.texts.Plan.TheVariants as P
+use Rattle.kinds.specs.declared.refusal.Refusal.{Refusal}
+use Rattle.counts.specs.declared.PacketNumber.{PacketNumber}
 
 -- the upper half of a first word: type, format and status
 abbrev pub upper_of : ℕ → ℕ
@@ -39,18 +38,18 @@ single_ascii ws head =
     pick (ltb (length ws) 4) false (pick (differ (upper_of (get_or ws 0 0)) (upper_of head)) false (ascii_packet ws 0 0))
 
 -- refusals 3 and 14 by the packets needed and the whole packets of the buffer
-unfoldable pub room_of : ℕ → ℕ → Plan
+unfoldable pub room_of : ℕ → ℕ → Result PacketNumber Refusal
 room_of n room =
-    pick (ltb 64 n) (P.Refused TooManyPackets) (pick (ltb room n) (P.Refused NoRoom) (P.Needs (packet n)))
+    pick (ltb 64 n) (Err TooManyPackets) (pick (ltb room n) (Err NoRoom) (Ok (packet n)))
 
 -- refusal 11 comes before them
-unfoldable pub plan_of : List ℕ → ℕ → ℕ → Plan
-plan_of text cap room = pick (is_bad (first_bad text)) (P.Refused NotUtf8) (room_of (needed cap (length text)) room)
+unfoldable pub plan_of : List ℕ → ℕ → ℕ → Result PacketNumber Refusal
+plan_of text cap room = pick (is_bad (first_bad text)) (Err NotUtf8) (room_of (needed cap (length text)) room)
 
 -- what a plan leaves: the words unchanged if it is refused, else what `act` gives for the packets needed
-abbrev pub carried : Plan → (ℕ → List ℕ) → List ℕ → Outcome
-carried (P.Needs n) act ws = outcome A.Done (act n.0)
-carried (P.Refused r) act ws = unchanged r ws
+abbrev pub carried : Result PacketNumber Refusal → (ℕ → List ℕ) → List ℕ → Outcome
+carried (Ok n) act ws = outcome (Ok tt) (act n.0)
+carried (Err r) act ws = unchanged r ws
 
 -- text in the packets of a kind, with the same head except for the format
 unfoldable pub text_on : Kind → ℕ → List ℕ → List ℕ → Outcome

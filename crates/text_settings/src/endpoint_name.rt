@@ -5,10 +5,11 @@ ghost use Rattle.standard.specs.Words.{set_on};
 
 use crate::texts::set_text;
 use kinds::kind::Kind;
-use records::answers::Answer;
+use kinds::refusal::Refusal;
 use table::rows::head_of;
 
-pub fn set_name(words: &mut [u32], name: &[u8]) -> Answer
+#[tactic(auto, unfolding(kinds::specs::Layout::layout), using(crate::proofs::Rows::name_put))]
+pub fn set_name(words: &mut [u32], name: &[u8]) -> Result<(), Refusal>
     ensures answer { result ≡ (set_on (Setting.text Text.endpoint_name name.now) words.old).answer }
     ensures buffer { words.new ≡ (set_on (Setting.text Text.endpoint_name name.now) words.old).words }
 {

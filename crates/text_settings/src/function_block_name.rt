@@ -6,30 +6,25 @@ ghost use Rattle.text_settings.specs.Texts.{block_head};
 
 use crate::target::find_text_target;
 use crate::texts::set_text;
-use fields::{put_each, too_large};
+use fields::put_each;
 use kinds::kind::Kind;
 use kinds::refusal::Refusal;
-use records::answers::Answer;
-use settings::helpers::Target;
 use table::places::place_of;
 use table::rows::head_of;
 
 // The refusals of the target, then 12; else the number goes into each packet of the message and none after.
-pub fn set_function_block(words: &mut [u32], number: u32) -> Answer
+#[tactic(auto, unfolding(crate::specs::Texts::each_on), using(crate::proofs::Rows::block_put))]
+pub fn set_function_block(words: &mut [u32], number: u32) -> Result<(), Refusal>
     ensures answer { result ≡ (set_on (Setting.number Number.function_block number) words.old).answer }
     ensures buffer { words.new ≡ (set_on (Setting.number Number.function_block number) words.old).words }
 {
-    let place = place_of(Kind::FunctionBlockName, 0);
-    match find_text_target(words, Kind::FunctionBlockName) {
-        Target::Refused(refusal) => Answer::Refused(refusal),
-        Target::Packets(packets) => {
-            if too_large(place.2, number) {
-                return Answer::Refused(Refusal::NumberTooLarge);
-            }
-            put_each(words, packets, place.1, place.2, number);
-            Answer::Done
-        }
+    let packets = find_text_target(words, Kind::FunctionBlockName)?;
+    let bits = place_of(Kind::FunctionBlockName, 0).bits;
+    if bits.too_large(number) {
+        return Err(Refusal::NumberTooLarge);
     }
+    put_each(words, packets, bits, number);
+    Ok(())
 }
 
 // The head of each packet: the block number is the one that the first packet has.
@@ -44,7 +39,8 @@ fn block_head(words: &[u32]) -> u32
     head + words[0] / 0x100 % 0x100 * 0x100
 }
 
-pub fn set_name(words: &mut [u32], name: &[u8]) -> Answer
+#[tactic(auto, unfolding(kinds::specs::Layout::layout), using(crate::proofs::Heads::block_upper, crate::proofs::Rows::block_name_put))]
+pub fn set_name(words: &mut [u32], name: &[u8]) -> Result<(), Refusal>
     ensures answer { result ≡ (set_on (Setting.text Text.function_block_name name.now) words.old).answer }
     ensures buffer { words.new ≡ (set_on (Setting.text Text.function_block_name name.now) words.old).words }
 {

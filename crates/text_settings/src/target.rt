@@ -7,9 +7,10 @@ ghost use Rattle.text_settings.specs.Texts.{single_ascii, SingleHead};
 
 use counts::PacketNumber;
 use kinds::kind::Kind;
+use kinds::refusal::Refusal;
 use reading::heads::status_of;
 use reading::helpers::text_packets;
-use settings::helpers::{Target, find_target};
+use settings::helpers::find_target;
 use table::rows::row_of;
 use text_check::helpers::ascii_packet;
 
@@ -28,28 +29,32 @@ fn is_single_ascii_packet(words: &[u32], head: u32) -> bool
 }
 
 // The packets of a message of this kind, or why a setting of it is refused. Fast path: one pass over the heads.
-pub(crate) fn find_text_target(words: &[u32], kind: Kind) -> Target
+#[tactic(auto, using(crate::proofs::Targets::seen_target))]
+pub(crate) fn find_text_target(words: &[u32], kind: Kind) -> Result<PacketNumber, Refusal>
     ensures { result ≡ target_of (layout kind).status (walk_of words.now 0) }
 {
-    let row = row_of(kind);
     if words.len() != 0 {
-        if status_of(words[0]) == row.status {
-            let packets = text_packets(kind, words);
-            if packets.0 != 0 {
-                return Target::Packets(packets);
+        if status_of(words[0]) == row_of(kind).status {
+            if let Some(packets) = text_packets(kind, words) {
+                return Ok(packets);
             }
         }
     }
-    find_target(words, row.status)
+    find_target(words, row_of(kind).status)
 }
 
 // Fast path: if a single ASCII packet stands there, no other check is needed.
-pub(crate) fn find_target_fast(words: &[u32], kind: Kind, head: u32) -> Target
+#[tactic(auto, using(crate::proofs::Singles::single_target))]
+pub(crate) fn find_target_fast(
+    words: &[u32],
+    kind: Kind,
+    head: u32,
+) -> Result<PacketNumber, Refusal>
     requires { SingleHead kind head }
     ensures { result ≡ target_of (layout kind).status (walk_of words.now 0) }
 {
     if is_single_ascii_packet(words, head) {
-        return Target::Packets(PacketNumber(1));
+        return Ok(PacketNumber(1));
     }
     find_text_target(words, kind)
 }

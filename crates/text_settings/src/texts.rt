@@ -9,62 +9,49 @@ use counts::{PacketNumber, TextByteNumber};
 use kinds::kind::Kind;
 use kinds::refusal::Refusal;
 use reading::helpers::offset_of;
-use records::answers::Answer;
-use settings::helpers::Target;
 use text::packets::{packets_needed, packets_of};
 use text_check::check_utf8;
-use utf8::Utf8;
-
-#[derive(Clone, Copy)]
-pub(crate) enum Plan {
-    // How many packets the text takes.
-    Needs(PacketNumber),
-    Refused(Refusal),
-}
 
 // Refusals 3 and 14, or the packets needed for this many bytes.
-fn find_room(bytes: TextByteNumber, capacity: usize, room: PacketNumber) -> Plan
+#[tactic(auto, unfolding(crate::specs::Texts::room_of))]
+fn find_room(
+    bytes: TextByteNumber,
+    capacity: usize,
+    room: PacketNumber,
+) -> Result<PacketNumber, Refusal>
     ensures { result ≡ room_of (needed capacity bytes.0) room.0 }
 {
     let needed = packets_needed(bytes, capacity);
-    let n = needed.0;
-    if 64 < n {
-        return Plan::Refused(Refusal::TooManyPackets);
+    if PacketNumber(64) < needed {
+        return Err(Refusal::TooManyPackets);
     }
-    if room.0 < n {
-        return Plan::Refused(Refusal::NoRoom);
+    if room < needed {
+        return Err(Refusal::NoRoom);
     }
-    Plan::Needs(needed)
+    Ok(needed)
 }
 
 // Refusals 11, 3 and 14, or the packets that the text needs.
-fn plan_text(text: &[u8], capacity: usize, room: PacketNumber) -> Plan
+#[tactic(auto, unfolding(crate::specs::Texts::plan_of))]
+fn plan_text(text: &[u8], capacity: usize, room: PacketNumber) -> Result<PacketNumber, Refusal>
     ensures { result ≡ plan_of text.now capacity room.0 }
 {
-    match check_utf8(text) {
-        Utf8::BadAt(_) => Plan::Refused(Refusal::NotUtf8),
-        Utf8::Good => find_room(TextByteNumber(text.len()), capacity, room),
+    if check_utf8(text).is_err() {
+        return Err(Refusal::NotUtf8);
     }
+    find_room(TextByteNumber(text.len()), capacity, room)
 }
 
 // The refusals of the target, then of the plan; else the text goes into each needed packet, with this head.
-pub(crate) fn set_text(words: &mut [u32], kind: Kind, head: u32, text: &[u8]) -> Answer
+#[tactic(auto, unfolding(crate::specs::Texts::text_on), using(reading::proofs::TextRows::offset_few, reading::proofs::TextRows::text_capacity))]
+pub(crate) fn set_text(words: &mut [u32], kind: Kind, head: u32, text: &[u8]) -> Result<(), Refusal>
     requires { SingleHead kind head }
     ensures answer { result ≡ (text_on kind head text.now words.old).answer }
     ensures buffer { words.new ≡ (text_on kind head text.now words.old).words }
 {
+    find_target_fast(words, kind, head)?;
     let offset = offset_of(kind);
-    match find_target_fast(words, kind, head) {
-        Target::Refused(refusal) => Answer::Refused(refusal),
-        Target::Packets(_) => {
-            let room = packets_of(words);
-            match plan_text(text, 14 - offset, room) {
-                Plan::Refused(refusal) => Answer::Refused(refusal),
-                Plan::Needs(packets) => {
-                    fill_text(words, text, offset, head, packets);
-                    Answer::Done
-                }
-            }
-        }
-    }
+    let packets = plan_text(text, 14 - offset, packets_of(words))?;
+    fill_text(words, text, offset, head, packets);
+    Ok(())
 }

@@ -1,19 +1,17 @@
 -- The steps of the code are the steps of the definition, by the meaning of a scan's state. Proved by computing, for all 256 bytes, that the code's view of a first byte is the table's row.
-use Rattle.std.proofs.Common.{◌≡◌, ℕ, zero, suc, ◌+◌, ◌-◌, ◌^◌, ◌<◌, ◌≤◌, Bool, true, false, eqb, ltb, List, ◌∷◌, length, get_or, drop, replicate, sym, refl, ap, ◌∙◌, mod-eq_of_lt, add-one, arith, drop_of_length-le, drop-cons}
+use Rattle.std.proofs.Common.{◌≡◌, ℕ, zero, suc, ◌+◌, ◌-◌, ◌%◌, ◌^◌, ◌<◌, ◌≤◌, Bool, true, false, eqb, ltb, List, ◌∷◌, length, get_or, drop, replicate, sym, refl, ap, ◌∙◌, mod-eq_of_lt, add-one, arith, drop_of_length-le, drop-cons, Result, Ok, Err}
 use mathlib.Core.Option.{Option, none, some}
 use lib.Dec.{eqb-suc-zero}
 use Rattle.laws.specs.Pick.{pick}
 use Rattle.laws.specs.Lists.{nonzero}
+use Rattle.laws.proofs.Pick.{never}
 use Rattle.laws.proofs.EachBelow.{each_at}
 use Rattle.counts.specs.Counts.{byte}
 use Rattle.counts.specs.declared.TextByteNumber.{TextByteNumber}
-use Rattle.utf8.specs.declared.scan.Scan.{Scan}
-use Rattle.utf8.specs.declared.scan.Scan.TheVariants.{Going, Stopped}
+use Rattle.utf8.specs.declared.scan.LastCharacter.{LastCharacter}
 use Rattle.utf8.specs.declared.skipping_zeros.SkippingScan.{SkippingScan}
-use Rattle.utf8.specs.declared.Utf8.{Utf8}
-use Rattle.utf8.specs.declared.Utf8.TheVariants.{BadAt}
 use Rattle.utf8.specs.Utf8.{Range, ◌‥◌, inside, tail, due_after, going, stopped, start_char, next_state, verdict, verdict_from, first_bad}
-use Rattle.utf8.specs.Scan.{leading_ones, length_by_ones, char_length, second_low, second_high, tails_due, second_due, after_first_byte, after_byte, verdict_at_end, due_ranges, meaning, new_skipping_scan, after_read, verdict_after}
+use Rattle.utf8.specs.Scan.{Scan, leading_ones, length_by_ones, char_length, second_low, second_high, tails_due, second_due, after_first_byte, after_byte, verdict_at_end, due_ranges, meaning, new_skipping_scan, one_read, after_read, verdict_after}
 use Rattle.utf8.proofs.Same.{same_ranges, same_due, same_due_eq}
 use Rattle.utf8.proofs.Valid.{verdict_stopped}
 
@@ -21,8 +19,8 @@ use Rattle.utf8.proofs.Valid.{verdict_stopped}
 
 -- what is due in a scan
 scan_due : Scan → Option (List Range)
-scan_due (Stopped n) = none
-scan_due (Going due low high start) = some (due_ranges due low high)
+scan_due (Err n) = none
+scan_due (Ok c) = some (due_ranges c.due c.low c.high)
 
 due_test : TextByteNumber → ℕ → Bool
 due_test n b = same_due (scan_due (after_first_byte n b)) (due_after b)
@@ -36,7 +34,7 @@ unfolding after_first_byte scan_due
 first_byte_due n b = go (eqb (char_length b) 1) (eqb (char_length b) 2) (ltb b 0xC2) (eqb (char_length b) 3) (eqb (char_length b) 4) (ltb 0xF4 b)
   where
     go : (one two low three four high : Bool) →
-        let k = pick one (tails_due 0 n) (pick two (pick low (Stopped n) (tails_due 1 n)) (pick three (second_due 2 b n) (pick four (pick high (Stopped n) (second_due 3 b n)) (Stopped n)))) in
+        let k : Scan = pick one (Ok (tails_due 0 n)) (pick two (pick low (Err n) (Ok (tails_due 1 n))) (pick three (Ok (second_due 2 b n)) (pick four (pick high (Err n) (Ok (second_due 3 b n))) (Err n)))) in
         meaning k ≡ start_char (scan_due k) n.0
     go true two low three four high = refl
     go false true true three four high = refl
@@ -55,63 +53,92 @@ tails : (k : ℕ) → due_ranges k 0x80 0xBF ≡ replicate k tail
 tails zero = refl
 tails (suc k) = refl
 
+-- a character with so many bytes due, the next of them from low to high
+abbrev pub reached : ℕ → ℕ → ℕ → TextByteNumber → LastCharacter
+reached due low high start = record { due = due; low = low; high = high; start = start }
+
 -- a step of the scan is a step of the definition
-pub byte_law : (s : Scan) (n : TextByteNumber) (b : ℕ) → b < 256 → meaning (after_byte s n b) ≡ next_state (meaning s) n.0 b
+reached_law : (due low high : ℕ) (start n : TextByteNumber) (b : ℕ) → b < 256 → meaning (after_byte (Ok (reached due low high start)) n b) ≡ next_state (meaning (Ok (reached due low high start))) n.0 b
 unfolding after_byte
-byte_law (Stopped m) n b h = refl
-byte_law (Going zero low high start) n b h = first_byte_law n b h
-byte_law (Going (suc k) low high start) n b h = rw eqb-suc-zero (go (inside (low ‥ high) b))
+reached_law zero low high start n b h = first_byte_law n b h
+reached_law (suc k) low high start n b h = rw eqb-suc-zero (go (inside (low ‥ high) b))
   where
     less : suc k - 1 ≡ k
     less = omega arith
 
-    go : (t : Bool) → meaning (pick t (Going (suc k - 1) 0x80 0xBF start) (Stopped start)) ≡ pick t (going (replicate k tail) start.0) (stopped start.0)
+    go : (t : Bool) → meaning (pick t (Ok (tails_due (suc k - 1) start)) (Err start)) ≡ pick t (going (replicate k tail) start.0) (stopped start.0)
     go true = ap (λ (j : ℕ). going (due_ranges j 0x80 0xBF) start.0) less ∙ ap (λ (l : List Range). going l start.0) (tails k)
     go false = refl
 
+pub byte_law : (s : Scan) (n : TextByteNumber) (b : ℕ) → b < 256 → meaning (after_byte s n b) ≡ next_state (meaning s) n.0 b
+unfolding after_byte
+byte_law (Err m) n b h = refl
+byte_law (Ok c) n b h = reached_law c.due c.low c.high c.start n b h
+
+due_end : (due low high : ℕ) (start : TextByteNumber) → verdict_at_end (Ok (reached due low high start)) ≡ verdict (meaning (Ok (reached due low high start)))
+unfolding verdict_at_end
+due_end zero low high start = refl
+due_end (suc k) low high start = rw eqb-suc-zero
+
 end_law : (s : Scan) → verdict_at_end s ≡ verdict (meaning s)
 unfolding verdict_at_end
-end_law (Stopped m) = refl
-end_law (Going zero low high start) = refl
-end_law (Going (suc k) low high start) = rw eqb-suc-zero
-
--- a scan that has stopped has its verdict
-pub scan_early : (s : Scan) (i : ℕ) (xs : List ℕ) (n : TextByteNumber) (v : Utf8) → s ≡ Stopped n → verdict_from (meaning s) i xs ≡ v → BadAt n ≡ v
-scan_early s i xs n v e h = sym (verdict_stopped n.0 i xs) ∙ (rw e at h)
+end_law (Err m) = refl
+end_law (Ok c) = due_end c.due c.low c.high c.start
 
 -- ---- one turn of a loop over a text, and its end
 
-pub scan_turn : (text : List ℕ) (s r : Scan) (i : ℕ) → i < length text → get_or text i 0 < 256 → r ≡ after_byte s (byte i) (get_or text i 0) → verdict_from (meaning r) (i + 1) (drop (i + 1) text) ≡ verdict_from (meaning s) i (drop i text)
-scan_turn text s r i h f e = rw (e, add-one, byte_law s (byte i) (get_or text i 0) f, drop-cons text i 0 h)
+-- what a check answers from a scan, if the bytes of the text from byte i on are still to come
+abbrev pub verdict_of : List ℕ → Scan → ℕ → Result (Unit {0}) TextByteNumber
+verdict_of text s i = verdict_from (meaning s) i (drop i text)
 
-pub scan_finish : (text : List ℕ) (s : Scan) (i : ℕ) → length text ≤ i → verdict_at_end s ≡ verdict_from (meaning s) i (drop i text)
+module _ (text : List ℕ) (s : Scan) (i : ℕ) (h : i < length text) (f : get_or text i 0 < 256) where
+  scan_turn : verdict_of text (after_byte s (byte i) (get_or text i 0)) (i + 1) ≡ verdict_of text s i
+  scan_turn = rw (add-one, byte_law s (byte i) (get_or text i 0) f, drop-cons text i 0 h)
+
+  -- the check goes on, or its verdict stands
+  pub scan_goes_on : (r : Scan) → r ≡ after_byte s (byte i) (get_or text i 0) → verdict_of text r (i + 1) ≡ verdict_of text s i
+  scan_goes_on r e = rw e scan_turn
+
+  pub scan_stops : (n : TextByteNumber) → Err n ≡ after_byte s (byte i) (get_or text i 0) → Err n ≡ verdict_of text s i
+  scan_stops n e = sym (verdict_stopped n.0 (i + 1) (drop (i + 1) text)) ∙ scan_goes_on (Err n) e
+
+pub scan_finish : (text : List ℕ) (s : Scan) (i : ℕ) → length text ≤ i → verdict_at_end s ≡ verdict_of text s i
 scan_finish text s i h = rw (drop_of_length-le text h) (end_law s)
 
 -- ---- one byte with zeros skipped
 
-pub skipping_start : (xs : List ℕ) → verdict_after new_skipping_scan xs ≡ first_bad (nonzero xs)
+-- once a check has stopped, what is still to come does not matter
+after_stop : (n : TextByteNumber) (at : ℕ) (xs : List ℕ) → verdict_from (meaning (Err n)) at xs ≡ Err n
+after_stop n at xs = verdict_stopped n.0 at xs
+
+pub skipping_start : (xs : List ℕ) → verdict_after (Ok new_skipping_scan) xs ≡ first_bad (nonzero xs)
 unfolding first_bad
 skipping_start xs = refl
 
-skipping_law : (r : SkippingScan) (b : ℕ) (xs : List ℕ) → b < 256 → r.at.0 + 1 < 2 ^ 64 → verdict_after (after_read r b) xs ≡ verdict_after r (b ∷ xs)
+one_read_law : (s : Scan) (at : TextByteNumber) (xs : List ℕ) → at.0 + 1 < 2 ^ 64 → verdict_after (one_read at s) xs ≡ verdict_from (meaning s) (suc at.0) (nonzero xs)
+one_read_law (Err n) at xs k = sym (after_stop n (suc at.0) (nonzero xs))
+one_read_law (Ok c) at xs k = rw (mod-eq_of_lt k, add-one)
+
+pub skipping_law : (r : SkippingScan) (b : ℕ) (xs : List ℕ) → b < 256 → r.at.0 + 1 < 2 ^ 64 → verdict_after (after_read (Ok r) b) xs ≡ verdict_after (Ok r) (b ∷ xs)
 unfolding after_read nonzero
 skipping_law r zero xs h k = refl
-skipping_law r (suc n) xs h k = rw (eqb-suc-zero, mod-eq_of_lt k, add-one, byte_law r.scan r.at (suc n) h)
+skipping_law r (suc n) xs h k = rw (eqb-suc-zero, one_read_law (after_byte (Ok r.last) r.at (suc n)) r.at xs k, byte_law (Ok r.last) r.at (suc n) h)
 
 -- the count of nonzero bytes grows by at most one
-pub skipping_count : (r : SkippingScan) (b : ℕ) → (after_read r b).at.0 ≤ r.at.0 + 1
-unfolding after_read
-skipping_count r zero = omega arith
-skipping_count r (suc k) = rw eqb-suc-zero (omega arith)
+one_read_count : (s : Scan) (at : TextByteNumber) (q : SkippingScan) → one_read at s ≡ Ok q → q.at.0 ≤ at.0 + 1
+one_read_count (Err n) at q e = never (cc)
+one_read_count (Ok c) at q e = let w : q ≡ record { last = c; at = byte ((at.0 + 1) % 2 ^ 64) } = cc in rw w (omega arith)
 
-pub skipping_early : (r : SkippingScan) (xs : List ℕ) (n : TextByteNumber) (v : Utf8) → r.scan ≡ Stopped n → verdict_after r xs ≡ v → BadAt n ≡ v
-skipping_early r xs n v e h = scan_early r.scan r.at.0 (nonzero xs) n v e h
+pub skipping_count : (r q : SkippingScan) (b : ℕ) → after_read (Ok r) b ≡ Ok q → q.at.0 ≤ r.at.0 + 1
+unfolding after_read
+skipping_count r q zero e = let w : r ≡ q = cc in rw w (omega arith)
+skipping_count r q (suc k) e = one_read_count (after_byte (Ok r.last) r.at (suc k)) r.at q (rw eqb-suc-zero at e)
 
 -- ---- one turn of a loop that skips zeros, and its end
 
-pub skipping_turn : (text : List ℕ) (q r : SkippingScan) (i : ℕ) → i < length text → get_or text i 0 < 256 → q.at.0 + 1 < 2 ^ 64 → r ≡ after_read q (get_or text i 0) → verdict_after r (drop (suc i) text) ≡ verdict_after q (drop i text)
-skipping_turn text q r i h f k e = rw (e, drop-cons text i 0 h) (skipping_law q (get_or text i 0) (drop (suc i) text) f k)
+pub skipping_turn : (text : List ℕ) (q : SkippingScan) (i : ℕ) → i < length text → get_or text i 0 < 256 → q.at.0 + 1 < 2 ^ 64 → verdict_after (after_read (Ok q) (get_or text i 0)) (drop (suc i) text) ≡ verdict_after (Ok q) (drop i text)
+skipping_turn text q i h f k = rw (drop-cons text i 0 h) (skipping_law q (get_or text i 0) (drop (suc i) text) f k)
 
-pub skipping_finish : (text : List ℕ) (r : SkippingScan) (i : ℕ) → length text ≤ i → verdict_at_end r.scan ≡ verdict_after r (drop i text)
+pub skipping_finish : (text : List ℕ) (r : SkippingScan) (i : ℕ) → length text ≤ i → verdict_at_end (Ok r.last) ≡ verdict_after (Ok r) (drop i text)
 unfolding nonzero
-skipping_finish text r i h = rw (drop_of_length-le text h) (end_law r.scan)
+skipping_finish text r i h = rw (drop_of_length-le text h) (end_law (Ok r.last))

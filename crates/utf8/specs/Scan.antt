@@ -1,15 +1,16 @@
--- What each function of the check returns, and what a `Scan` means in terms of `Utf8`.
-use Rattle.std.specs.Prelude.{ℕ, zero, suc, ◌+◌, ◌-◌, ◌/◌, ◌%◌, ◌^◌, List, [], ◌∷◌, replicate, ◌==◌, nat_lt}
+-- What each function of the check returns, and what a `Scan` means in terms of the grammar's states.
+use Rattle.std.specs.Prelude.{ℕ, zero, suc, ◌+◌, ◌-◌, ◌/◌, ◌%◌, ◌^◌, List, [], ◌∷◌, replicate, ◌==◌, nat_lt, Option, Some, None, Result, Ok, Err}
 use Rattle.laws.specs.Pick.{pick}
 use Rattle.laws.specs.Lists.{nonzero}
 use Rattle.counts.specs.Counts.{byte}
 use Rattle.counts.specs.declared.TextByteNumber.{TextByteNumber}
 use Rattle.utf8.specs.Utf8.{Range, ◌‥◌, tail, inside, State, going, stopped, verdict_from}
 use Rattle.utf8.specs.declared.skipping_zeros.SkippingScan.{SkippingScan}
-use Rattle.utf8.specs.declared.scan.Scan.{Scan}
-use Rattle.utf8.specs.declared.scan.Scan.TheVariants.{Going, Stopped}
-use Rattle.utf8.specs.declared.Utf8.{Utf8}
-use Rattle.utf8.specs.declared.Utf8.TheVariants.{Good, BadAt}
+use Rattle.utf8.specs.declared.scan.LastCharacter.{LastCharacter}
+
+-- a check on its way: the character reached, or the place of the bad character that stopped it
+abbrev pub Scan : Type 0
+Scan = Result LastCharacter TextByteNumber
 
 -- ---- a first byte
 
@@ -30,6 +31,10 @@ length_by_ones n =
 unfoldable pub char_length : ℕ → ℕ
 char_length b = length_by_ones (leading_ones 8 b)
 
+-- a number, where 0 says that there is none
+abbrev pub unless_zero : ℕ → Option ℕ
+unless_zero n = pick (n == 0) None (Some n)
+
 -- the smallest second byte after first byte b
 unfoldable pub second_low : ℕ → ℕ
 second_low b = pick (b == 0xE0) 0xA0 (pick (b == 0xF0) 0x90 0x80)
@@ -40,39 +45,39 @@ second_high b = pick (b == 0xED) 0x9F (pick (b == 0xF4) 0x8F 0xBF)
 
 -- ---- any byte
 
--- in a character that started at `start`, with so many tails due
-abbrev pub tails_due : ℕ → TextByteNumber → Scan
-tails_due due start = Going due 0x80 0xBF start
+-- a character that started at `start`, with so many tails due
+abbrev pub tails_due : ℕ → TextByteNumber → LastCharacter
+tails_due due start = record { due = due; low = 0x80; high = 0xBF; start = start }
 
 -- the same after first byte b, which may narrow the range of the second
-abbrev pub second_due : ℕ → ℕ → TextByteNumber → Scan
-second_due due b start = Going due (second_low b) (second_high b) start
+abbrev pub second_due : ℕ → ℕ → TextByteNumber → LastCharacter
+second_due due b start = record { due = due; low = second_low b; high = second_high b; start = start }
 
 -- a check that has read nothing
-abbrev pub new_scan : Scan
+abbrev pub new_scan : LastCharacter
 new_scan = tails_due 0 (byte 0)
 
 -- the check after byte b, number `at`, where a character starts; no character starts with C0, C1 or F5 and above
 unfoldable pub after_first_byte : TextByteNumber → ℕ → Scan
 after_first_byte at b =
-    pick (char_length b == 1) (tails_due 0 at)
-    (pick (char_length b == 2) (pick (nat_lt b 0xC2) (Stopped at) (tails_due 1 at))
-    (pick (char_length b == 3) (second_due 2 b at)
-    (pick (char_length b == 4) (pick (nat_lt 0xF4 b) (Stopped at) (second_due 3 b at)) (Stopped at))))
+    pick (char_length b == 1) (Ok (tails_due 0 at))
+    (pick (char_length b == 2) (pick (nat_lt b 0xC2) (Err at) (Ok (tails_due 1 at)))
+    (pick (char_length b == 3) (Ok (second_due 2 b at))
+    (pick (char_length b == 4) (pick (nat_lt 0xF4 b) (Err at) (Ok (second_due 3 b at))) (Err at))))
 
 -- the check after byte b, number `at`
 unfoldable pub after_byte : Scan → TextByteNumber → ℕ → Scan
-after_byte (Stopped n) at b = Stopped n
-after_byte (Going due low high start) at b =
-    pick (due == 0) (after_first_byte at b)
-    (pick (inside (low ‥ high) b) (tails_due (due - 1) start) (Stopped start))
+after_byte (Err n) at b = Err n
+after_byte (Ok c) at b =
+    pick (c.due == 0) (after_first_byte at b)
+    (pick (inside (c.low ‥ c.high) b) (Ok (tails_due (c.due - 1) c.start)) (Err c.start))
 
 -- the verdict at the end of the text
-unfoldable pub verdict_at_end : Scan → Utf8
-verdict_at_end (Stopped n) = BadAt n
-verdict_at_end (Going due low high start) = pick (due == 0) Good (BadAt start)
+unfoldable pub verdict_at_end : Scan → Result (Unit {0}) TextByteNumber
+verdict_at_end (Err n) = Err n
+verdict_at_end (Ok c) = pick (c.due == 0) (Ok tt) (Err c.start)
 
--- ---- the meaning of a `Scan` in terms of `Utf8`
+-- ---- the meaning of a `Scan` in terms of the grammar's states
 
 -- n bytes due: the next from low to high, the others tails
 abbrev pub due_ranges : ℕ → ℕ → ℕ → List Range
@@ -81,20 +86,26 @@ due_ranges (suc n) low high = low ‥ high ∷ replicate n tail
 
 -- the state of the definition that a scan stands for
 abbrev pub meaning : Scan → State
-meaning (Stopped n) = stopped n.0
-meaning (Going due low high start) = going (due_ranges due low high) start.0
+meaning (Err n) = stopped n.0
+meaning (Ok c) = going (due_ranges c.due c.low c.high) c.start.0
 
 -- ---- zero bytes skipped
 
 -- a check that has read nothing
 abbrev pub new_skipping_scan : SkippingScan
-new_skipping_scan = record { scan = new_scan; at = byte 0 }
+new_skipping_scan = record { last = new_scan; at = byte 0 }
 
--- the check after one more byte; the count wraps at 2 ^ 64, which no slice reaches
-unfoldable pub after_read : SkippingScan → ℕ → SkippingScan
-after_read r b =
-    pick (b == 0) r (record { scan = after_byte r.scan r.at b; at = byte ((r.at.0 + 1) % 2 ^ 64) })
+-- the check after byte number `at` was read; the count wraps at 2 ^ 64, which no slice reaches
+abbrev pub one_read : TextByteNumber → Scan → Result SkippingScan TextByteNumber
+one_read at (Err n) = Err n
+one_read at (Ok c) = Ok (record { last = c; at = byte ((at.0 + 1) % 2 ^ 64) })
+
+-- the check after one more byte
+unfoldable pub after_read : Result SkippingScan TextByteNumber → ℕ → Result SkippingScan TextByteNumber
+after_read (Err n) b = Err n
+after_read (Ok r) b = pick (b == 0) (Ok r) (one_read r.at (after_byte (Ok r.last) r.at b))
 
 -- the verdict if the bytes xs are still to come
-abbrev pub verdict_after : SkippingScan → List ℕ → Utf8
-verdict_after r xs = verdict_from (meaning r.scan) r.at.0 (nonzero xs)
+abbrev pub verdict_after : Result SkippingScan TextByteNumber → List ℕ → Result (Unit {0}) TextByteNumber
+verdict_after (Err n) xs = Err n
+verdict_after (Ok r) xs = verdict_from (meaning (Ok r.last)) r.at.0 (nonzero xs)

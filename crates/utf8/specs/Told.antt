@@ -1,23 +1,21 @@
 -- Document 01's UTF-8 told once more, by examples in plain bytes: each edge of RFC 3629's UTF8-char, where the first bad character starts, and a character's length.
-use Rattle.std.specs.Prelude.{◌≡◌, ℕ, List, [], ◌∷◌}
+use Rattle.std.specs.Prelude.{◌≡◌, ℕ, List, [], ◌∷◌, Ok, Err}
 use Rattle.laws.specs.Lists.{map}
 use Rattle.counts.specs.Counts.{byte}
-use Rattle.utf8.specs.declared.Utf8.TheVariants.{Good, BadAt}
-use Rattle.utf8.specs.declared.scan.Scan.TheVariants.{Going, Stopped}
 use Rattle.utf8.specs.Utf8.{first_bad}
 use Rattle.utf8.specs.Scan.{char_length, after_first_byte, new_skipping_scan, verdict_after}
 
 -- each of these texts is good
 abbrev Taken : List (List ℕ) → Type 0
-Taken ts = map first_bad ts ≡ map (λ t. Good) ts
+Taken ts = map first_bad ts ≡ map (λ t. Ok tt) ts
 
 -- each of these texts is bad, and its first bad character starts at byte 0
 abbrev Refused : List (List ℕ) → Type 0
-Refused ts = map first_bad ts ≡ map (λ t. BadAt (byte 0)) ts
+Refused ts = map first_bad ts ≡ map (λ t. Err (byte 0)) ts
 
 pub record ToldUtf8 : Type 0 where
   -- an empty text is good
-  pub empty : first_bad [] ≡ Good
+  pub empty : first_bad [] ≡ Ok tt
   -- one byte: 00 to 7F
   pub one : Taken ((0x00 ∷ []) ∷ (0x7F ∷ []) ∷ [])
   pub not_one : Refused ((0x80 ∷ []) ∷ (0xBF ∷ []) ∷ [])
@@ -50,15 +48,15 @@ pub record ToldUtf8 : Type 0 where
   -- a text that ends inside a character
   pub cut : Refused ((0xC2 ∷ []) ∷ (0xE1 ∷ 0x80 ∷ []) ∷ (0xF1 ∷ 0x80 ∷ []) ∷ (0xF1 ∷ 0x80 ∷ 0x80 ∷ []) ∷ [])
   -- the place is the first byte of the first bad character, after good ones of one, two, three and four bytes
-  pub place : first_bad (0x41 ∷ 0xC3 ∷ 0xA9 ∷ 0xE2 ∷ 0x82 ∷ 0xAC ∷ 0xF0 ∷ 0x9F ∷ 0x98 ∷ 0x80 ∷ 0xE2 ∷ 0x82 ∷ 0x41 ∷ 0xFF ∷ []) ≡ BadAt (byte 10)
-  pub place_cut : first_bad (0x41 ∷ 0xC3 ∷ 0xA9 ∷ 0xE2 ∷ 0x82 ∷ []) ≡ BadAt (byte 3)
-  pub all_good : first_bad (0x41 ∷ 0xC3 ∷ 0xA9 ∷ 0xE2 ∷ 0x82 ∷ 0xAC ∷ 0xF0 ∷ 0x9F ∷ 0x98 ∷ 0x80 ∷ 0x42 ∷ []) ≡ Good
+  pub place : first_bad (0x41 ∷ 0xC3 ∷ 0xA9 ∷ 0xE2 ∷ 0x82 ∷ 0xAC ∷ 0xF0 ∷ 0x9F ∷ 0x98 ∷ 0x80 ∷ 0xE2 ∷ 0x82 ∷ 0x41 ∷ 0xFF ∷ []) ≡ Err (byte 10)
+  pub place_cut : first_bad (0x41 ∷ 0xC3 ∷ 0xA9 ∷ 0xE2 ∷ 0x82 ∷ []) ≡ Err (byte 3)
+  pub all_good : first_bad (0x41 ∷ 0xC3 ∷ 0xA9 ∷ 0xE2 ∷ 0x82 ∷ 0xAC ∷ 0xF0 ∷ 0x9F ∷ 0x98 ∷ 0x80 ∷ 0x42 ∷ []) ≡ Ok tt
   -- a zero byte is a whole character of a text as given, so C3 00 A9 is bad; where zeros are skipped it is good
-  pub zero_given : first_bad (0xC3 ∷ 0x00 ∷ 0xA9 ∷ []) ≡ BadAt (byte 0)
-  pub zero_alone : first_bad (0x41 ∷ 0x00 ∷ 0x42 ∷ []) ≡ Good
-  pub zero_skipped : verdict_after new_skipping_scan (0xC3 ∷ 0x00 ∷ 0xA9 ∷ []) ≡ Good
+  pub zero_given : first_bad (0xC3 ∷ 0x00 ∷ 0xA9 ∷ []) ≡ Err (byte 0)
+  pub zero_alone : first_bad (0x41 ∷ 0x00 ∷ 0x42 ∷ []) ≡ Ok tt
+  pub zero_skipped : verdict_after (Ok new_skipping_scan) (0xC3 ∷ 0x00 ∷ 0xA9 ∷ []) ≡ Ok tt
   -- and a place counts the bytes that are not zero
-  pub place_skipped : verdict_after new_skipping_scan (0x00 ∷ 0x41 ∷ 0x00 ∷ 0x28 ∷ 0xC3 ∷ 0x00 ∷ 0x28 ∷ []) ≡ BadAt (byte 2)
+  pub place_skipped : verdict_after (Ok new_skipping_scan) (0x00 ∷ 0x41 ∷ 0x00 ∷ 0x28 ∷ 0xC3 ∷ 0x00 ∷ 0x28 ∷ []) ≡ Err (byte 2)
   -- a character's length by the one bits that its first byte starts with: none is 1; two, three, four are 2, 3, 4; others are bad, 0
   pub no_ones : map char_length (0x00 ∷ 0x41 ∷ 0x7F ∷ []) ≡ 1 ∷ 1 ∷ 1 ∷ []
   pub one_one : map char_length (0x80 ∷ 0xA9 ∷ 0xBF ∷ []) ≡ 0 ∷ 0 ∷ 0 ∷ []
@@ -67,5 +65,5 @@ pub record ToldUtf8 : Type 0 where
   pub four_ones : map char_length (0xF0 ∷ 0xF7 ∷ []) ≡ 4 ∷ 4 ∷ []
   pub more_ones : map char_length (0xF8 ∷ 0xFB ∷ 0xFC ∷ 0xFD ∷ 0xFE ∷ 0xFF ∷ []) ≡ 0 ∷ 0 ∷ 0 ∷ 0 ∷ 0 ∷ 0 ∷ []
   -- barred first bytes: C0, C1, F5 to FF
-  pub barred : map (after_first_byte (byte 3)) (0xC0 ∷ 0xC1 ∷ 0xF5 ∷ 0xF7 ∷ 0xFF ∷ []) ≡ Stopped (byte 3) ∷ Stopped (byte 3) ∷ Stopped (byte 3) ∷ Stopped (byte 3) ∷ Stopped (byte 3) ∷ []
-  pub not_barred : map (after_first_byte (byte 3)) (0xC2 ∷ 0xF4 ∷ []) ≡ Going 1 0x80 0xBF (byte 3) ∷ Going 3 0x80 0x8F (byte 3) ∷ []
+  pub barred : map (after_first_byte (byte 3)) (0xC0 ∷ 0xC1 ∷ 0xF5 ∷ 0xF7 ∷ 0xFF ∷ []) ≡ Err (byte 3) ∷ Err (byte 3) ∷ Err (byte 3) ∷ Err (byte 3) ∷ Err (byte 3) ∷ []
+  pub not_barred : map (after_first_byte (byte 3)) (0xC2 ∷ 0xF4 ∷ []) ≡ Ok (record { due = 1; low = 0x80; high = 0xBF; start = byte 3 }) ∷ Ok (record { due = 3; low = 0x80; high = 0x8F; start = byte 3 }) ∷ []

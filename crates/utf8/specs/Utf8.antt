@@ -1,11 +1,9 @@
 -- UTF-8 by RFC 3629, section 4: what a character is, what a valid text is, and where the first bad character of a text starts.
-use Rattle.std.specs.Prelude.{◌≡◌, ℕ, suc, ◌<◌, Bool, true, ◌&&◌, List, [], ◌∷◌, ◌++◌, length, take, drop, ◌≢◌, nat_le}
+use Rattle.std.specs.Prelude.{◌≡◌, ℕ, suc, ◌<◌, Bool, true, ◌&&◌, List, [], ◌∷◌, ◌++◌, length, take, drop, ◌≢◌, nat_le, Result, Ok, Err}
 use Rattle.std.proofs.Math.Option.{Option, none, some}
 use Rattle.laws.specs.Pick.{pick}
 use Rattle.counts.specs.Counts.{byte}
 use Rattle.counts.specs.declared.TextByteNumber.{TextByteNumber}
-use Rattle.utf8.specs.declared.Utf8.{Utf8}
-use Rattle.utf8.specs.declared.Utf8.TheVariants.{Good, BadAt}
 
 infix 80 ◌‥◌
 infix 50 ◌then◌
@@ -89,21 +87,21 @@ next_state (going [] n) at x = start_char (due_after x) at
 next_state (going (d ∷ ds) n) at x = pick (inside d x) (going ds n) (stopped n)
 
 -- the verdict if the text ends here
-abbrev pub verdict : State → Utf8
-verdict (stopped n) = BadAt (byte n)
-verdict (going [] n) = Good
-verdict (going (d ∷ ds) n) = BadAt (byte n)
+abbrev pub verdict : State → Result (Unit {0}) TextByteNumber
+verdict (stopped n) = Err (byte n)
+verdict (going [] n) = Ok tt
+verdict (going (d ∷ ds) n) = Err (byte n)
 
 -- the verdict on the remaining bytes; the first of them is byte number `at`
-abbrev pub verdict_from : State → ℕ → List ℕ → Utf8
+abbrev pub verdict_from : State → ℕ → List ℕ → Result (Unit {0}) TextByteNumber
 verdict_from s at [] = verdict s
 verdict_from s at (x ∷ xs) = verdict_from (next_state s at x) (suc at) xs
 
 -- THE VERDICT on a text: good, or where its first bad character starts
-unfoldable pub first_bad : List ℕ → Utf8
+unfoldable pub first_bad : List ℕ → Result (Unit {0}) TextByteNumber
 first_bad xs = verdict_from (going [] 0) 0 xs
 
 -- what follows from a verdict: something of the place where the first bad character starts, or what comes next if the text is good
-abbrev pub if_bad : {A : Type 0} → Utf8 → (TextByteNumber → A) → A → A
-if_bad (BadAt n) bad next = bad n
-if_bad Good bad next = next
+abbrev pub if_bad : {A : Type 0} → Result (Unit {0}) TextByteNumber → (TextByteNumber → A) → A → A
+if_bad (Err n) bad next = bad n
+if_bad (Ok tt) bad next = next

@@ -4,32 +4,20 @@
 ghost use Rattle.std.specs.Prelude.{◌≡◌};
 ghost use Rattle.utf8.specs.Utf8.{first_bad};
 
-use crate::scan::Scan;
+use crate::scan::LastCharacter;
 use counts::TextByteNumber;
 
 mod first_byte;
 pub mod scan;
 pub mod skipping_zeros;
 
-// The answer of a check. The number is the byte at which the first bad character starts.
-#[derive(Clone, Copy)]
-pub enum Utf8 {
-    Good,
-    BadAt(TextByteNumber),
-}
-
 // Whether a text is UTF-8; if not, where its first bad character starts.
-pub fn check_utf8(text: &[u8]) -> Utf8
+pub fn check_utf8(text: &[u8]) -> Result<(), TextByteNumber>
     ensures { result ≡ first_bad text.now }
 {
-    let mut s = scan::new_scan();
-    let mut i = 0;
-    while i < text.len() {
-        s = scan::after_byte(s, TextByteNumber(i), text[i]);
-        if let Scan::Stopped(n) = s {
-            return Utf8::BadAt(n);
-        }
-        i += 1;
+    let mut last = LastCharacter::before_text();
+    for (i, byte) in text.iter().enumerate() {
+        last = last.after_byte(TextByteNumber(i), *byte)?;
     }
-    scan::verdict_at_end(s)
+    last.verdict_at_end()
 }

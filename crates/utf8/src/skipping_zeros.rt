@@ -1,40 +1,57 @@
 // The check of a text with its zero bytes skipped, so that the text need not be copied without them.
-ghost use Rattle.std.specs.Prelude.{◌≡◌};
-ghost use Rattle.utf8.specs.Scan.{new_skipping_scan, after_read};
+ghost use Rattle.std.specs.Prelude.{◌≡◌, Ok};
+ghost use Rattle.utf8.specs.Scan.{new_skipping_scan, after_read, verdict_at_end};
 
-use crate::scan;
-use crate::scan::Scan;
+use crate::scan::LastCharacter;
 use counts::TextByteNumber;
 
-// The state of the check, and the number of nonzero bytes read so far.
+// The character reached, and the number of nonzero bytes read so far.
 #[derive(Clone, Copy)]
 pub struct SkippingScan {
-    pub scan: Scan,
+    pub last: LastCharacter,
     pub at: TextByteNumber,
 }
 
-// A check that has read nothing.
-pub fn new_skipping_scan() -> SkippingScan
-    ensures { result ≡ new_skipping_scan }
-{
-    SkippingScan {
-        scan: scan::new_scan(),
-        at: TextByteNumber(0),
+impl SkippingScan {
+    // A check that has read nothing.
+    pub fn before_text() -> SkippingScan
+        ensures { result ≡ new_skipping_scan }
+    {
+        SkippingScan {
+            last: LastCharacter::before_text(),
+            at: TextByteNumber(0),
+        }
+    }
+
+    // The check after one more byte. A zero byte changes nothing.
+    #[tactic(auto, unfolding(crate::specs::Scan::after_read))]
+    pub fn after_byte(self, b: u8) -> Result<SkippingScan, TextByteNumber>
+        ensures { result ≡ after_read (Ok self) b }
+    {
+        if b == 0 {
+            return Ok(self);
+        }
+        Ok(SkippingScan {
+            last: self.last.after_byte(self.at, b)?,
+            at: TextByteNumber(std::num::wrapping_add_usize(self.at.0, 1)),
+        })
+    }
+
+    // The verdict if the text ends here.
+    pub fn verdict_at_end(self) -> Result<(), TextByteNumber>
+        ensures { result ≡ verdict_at_end (Ok self.last) }
+    {
+        self.last.verdict_at_end()
     }
 }
 
-// The check after one more byte. A zero byte changes nothing.
+// For a caller that keeps a check whether or not it stopped: the check after one more byte. One that stopped stays as it is.
 #[tactic(auto, unfolding(crate::specs::Scan::after_read))]
-pub fn read_byte(r: SkippingScan, b: u8) -> SkippingScan
-    ensures { result ≡ after_read r b }
+pub fn after_byte(
+    check: Result<SkippingScan, TextByteNumber>,
+    b: u8,
+) -> Result<SkippingScan, TextByteNumber>
+    ensures { result ≡ after_read check b }
 {
-    if b == 0 {
-        return r;
-    }
-    let at = r.at;
-    let s = r.scan;
-    SkippingScan {
-        scan: scan::after_byte(s, at, b),
-        at: TextByteNumber(std::num::wrapping_add_usize(at.0, 1)),
-    }
+    check?.after_byte(b)
 }

@@ -1,4 +1,5 @@
 -- The walk answers a message exactly where a well-formed one stands. Closed by framing its packets one by one, and by the laws of reading.
+use Rattle.std.specs.Prelude.{Result, Ok, Err}
 use Prim.Native.Nat.{ℕ, ◌+◌, ◌-◌, ◌*◌, ◌/◌, ◌≤◌}
 use mathlib.Core.Path.{◌≡◌, refl, sym, ap, ◌∙◌}
 use mathlib.Core.Bool.{Bool, true, false}
@@ -13,8 +14,6 @@ use Rattle.counts.specs.Counts.{word}
 use Rattle.counts.specs.declared.WordNumber.{WordNumber}
 use Rattle.kinds.specs.declared.refusal.Refusal.TheVariants.{TooFewWords}
 use Rattle.records.specs.declared.message.Message.{Message}
-use Rattle.records.specs.declared.answers.Read.{Read}
-use Rattle.records.specs.declared.answers.Read.TheVariants as R
 use Rattle.records.specs.declared.answers.Walked.TheVariants as W
 use Rattle.records.specs.Records.{packets_in}
 use Rattle.records.specs.declared.answers.Walked.{Walked}
@@ -27,18 +26,19 @@ use Rattle.standard.proofs.Formed.{read_formed}
 use Rattle.standard.proofs.Walks.{formed_walk, part_length}
 use Rattle.standard.proofs.Next.{whole_room}
 use Rattle.walking.specs.Stands.{Stands, text_there}
+use Rattle.kinds.specs.declared.refusal.Refusal.{Refusal}
 
 -- ---- a well-formed message that stands there is answered
 pub stands_walk : (m : Message) (t ws : List ℕ) (pos : ℕ) (next : WordNumber) → Stands m t ws pos next → walk_of ws pos ≡ W.Message m next
 stands_walk m t ws pos next s = formed_walk m t ws pos s.room s.formed ∙ ap (W.Message m) (sym s.after)
 
 -- ---- and nothing else is
-read_stands : (r : Read) (ws : List ℕ) (pos n : ℕ) (m : Message) (next : WordNumber) → pos + n * 4 ≤ length ws → read_of (part ws pos n) ≡ r → walked_of r (pos + n * 4) ≡ W.Message m next → Stands m (text_there m ws pos) ws pos next
-read_stands (R.Refused r) ws pos n m next h q e = never (cc)
-read_stands (R.Message a) ws pos n m next h q e =
+read_stands : (r : (Result Message Refusal)) (ws : List ℕ) (pos n : ℕ) (m : Message) (next : WordNumber) → pos + n * 4 ≤ length ws → read_of (part ws pos n) ≡ r → walked_of r (pos + n * 4) ≡ W.Message m next → Stands m (text_there m ws pos) ws pos next
+read_stands (Err r) ws pos n m next h q e = never (cc)
+read_stands (Ok a) ws pos n m next h q e =
     let same : a ≡ m = cc in
     let after : word (pos + n * 4) ≡ next = cc in
-    let f = read_formed (part ws pos n) m (q ∙ ap R.Message same) in
+    let f = read_formed (part ws pos n) m (q ∙ ap Ok same) in
     let count : n ≡ packets_in m = omega (arith, f.words, part_length ws pos n h) in
     record { room = rw (← count) h; formed = rw count at f; after = rw (← count) (sym after) }
 

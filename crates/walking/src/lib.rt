@@ -11,7 +11,8 @@ use counts::{PacketNumber, WordNumber, first_word};
 use kinds::refusal::Refusal;
 use reading::heads::{format_of, status_of, type_of};
 use reading::helpers::read_framed;
-use records::answers::{Read, Walked};
+use records::answers::Walked;
+use records::message::Message;
 use standard::{Framed, Step};
 
 // The words of a packet of each type, 0 to F in order, as M2-104-UM lists them. Bytes, since the compiler copies the table to the stack at each use.
@@ -55,17 +56,16 @@ fn step_of(p: usize, format: u8) -> Step
     }
 }
 
+// Here and below `pos` is within the words, as `walk` has seen: a type for both would serve three private functions alone.
 // Counts the packets of the message at `pos` and checks their heads. If 64 packets do not end it there are too many, even with no words left.
-// `at` is the first word of packet p: four words on in each turn, so that the loop has no product.
 #[tactic(auto, unfolding(standard::specs::Walk::frame_of))]
 fn frame(words: &[u32], pos: usize) -> Framed
     requires { pos < length words.now }
     ensures { result ≡ frame_of words.now pos }
 {
     let status = status_of(words[pos]);
-    let mut p = 0;
-    let mut at = pos;
-    while p < 64 {
+    for p in 0..64 {
+        let at = pos + p * 4;
         if words.len() - at < 4 {
             return Framed::Short;
         }
@@ -76,18 +76,11 @@ fn frame(words: &[u32], pos: usize) -> Framed
         if status_of(w) != status {
             return Framed::Broken(Refusal::StatusDiffers(PacketNumber(p)));
         }
-        let step = step_of(p, format_of(w));
-        match step {
-            Step::Ends => {
-                return Framed::Whole(PacketNumber(p + 1));
-            }
+        match step_of(p, format_of(w)) {
+            Step::Ends => return Framed::Whole(PacketNumber(p + 1)),
             Step::Goes => {}
-            Step::Wrong => {
-                return Framed::Broken(Refusal::WrongFormat(PacketNumber(p)));
-            }
+            Step::Wrong => return Framed::Broken(Refusal::WrongFormat(PacketNumber(p))),
         }
-        p += 1;
-        at += 4;
     }
     Framed::Broken(Refusal::TooManyPackets)
 }
@@ -113,15 +106,15 @@ fn walk_other(ump_type: u32, words: &[u32], pos: usize) -> Walked
 }
 
 // What was read, with the position after it.
-fn walk_read(read: Read, next: usize) -> Walked
+fn walk_read(read: Result<Message, Refusal>, next: usize) -> Walked
     ensures { result ≡ walked_of read next }
 {
     match read {
-        Read::Message(message) => Walked::Message {
+        Ok(message) => Walked::Message {
             message,
             next: WordNumber(next),
         },
-        Read::Refused(refusal) => Walked::Refused {
+        Err(refusal) => Walked::Refused {
             refusal,
             next: WordNumber(next),
         },
@@ -134,8 +127,7 @@ fn walk_framed(words: &[u32], pos: usize) -> Walked
     requires { pos < length words.now }
     ensures { result ≡ framed_of (frame_of words.now pos) words.now pos }
 {
-    let f = frame(words, pos);
-    match f {
+    match frame(words, pos) {
         Framed::Short => Walked::Refused {
             refusal: Refusal::TooFewWords,
             next: WordNumber(words.len()),

@@ -1,26 +1,23 @@
 -- A fresh message is the buffer cleared, with one head. Closed by taking the first packet off; the table is computed over it.
-use Prim.Native.Nat.{ℕ, suc, ◌+◌, ◌*◌, ◌/◌, ◌≤◌, ◌<◌}
+use Prim.Native.Nat.{ℕ, suc, ◌+◌, ◌*◌, ◌/◌, ◌≤◌}
 use mathlib.Core.Path.{◌≡◌, refl, sym, ap, ◌∙◌, fun_ext}
 use mathlib.Core.List.{List, [], ◌∷◌}
 use native.Mathlib.Omega.{arith}
 use lib.ListN.{length}
 use lib.Dec.{eqb}
-use borrow.Author.Tests.{eq-eqb, ne_eqb, eqb-true}
+use borrow.Author.Tests.{ne_eqb, eqb-true}
 use Rattle.laws.specs.Pick.{pick, both}
 use Rattle.laws.specs.Lists.{up_to}
 use Rattle.slots.specs.Slots.{put, put_all}
 use Rattle.text.specs.Written.{blank}
 use Rattle.kinds.specs.declared.kind.Kind.{Kind}
 use Rattle.kinds.specs.declared.kind.Kind.TheVariants as K
-use Rattle.kinds.specs.declared.kind.Known.TheVariants.{Is, Unknown}
-use Rattle.kinds.specs.declared.refusal.Refusal.TheVariants.{UnknownStatus, NoRoom}
 use Rattle.kinds.specs.Fields.{start, part_of}
-use Rattle.kinds.specs.Layout.{layout, kind_of, parts}
+use Rattle.kinds.specs.Layout.{layout, parts}
 use Rattle.kinds.proofs.Rows.{every_kind, at_kind}
 use Rattle.table.specs.Rows.{table_row}
-use Rattle.records.specs.declared.answers.Answer.TheVariants as A
 use Rattle.standard.specs.Heads.{head_word}
-use Rattle.standard.specs.Words.{outcome, unchanged, put_word, head_of, fresh, fresh_on}
+use Rattle.standard.specs.Words.{put_word, head_of, fresh}
 
 -- a buffer with a whole packet, cleared: its first packet, and the rest
 record Opened (ws : List ℕ) : Type 0 where
@@ -49,9 +46,9 @@ start_put K.ProductInstanceId rest = refl
 start_put K.FunctionBlockInfo rest = refl
 start_put K.FunctionBlockName rest = refl
 
-fresh-blank : (k : Kind) (ws : List ℕ) → 4 ≤ length ws → fresh k ws ≡ blank (head_of (layout k) start 0) ws
+pub fresh_blank : (k : Kind) (ws : List ℕ) → 4 ≤ length ws → fresh k ws ≡ blank (head_of (layout k) start 0) ws
 unfolding fresh
-fresh-blank k ws h =
+fresh_blank k ws h =
     let o = opened ws h in
     ap (put_all (layout k).fields (parts start)) (o.is (head_word (layout k).status 0)) ∙ start_put k o.rest ∙ sym (o.is (head_of (layout k) start 0))
 
@@ -59,18 +56,3 @@ fresh-blank k ws h =
 pub head_row : (k : Kind) → head_word (layout k).status 0 + (table_row k).start ≡ head_of (layout k) start 0
 unfolding every_kind layout start part_of put_word put put_all both
 head_row k = eqb-true _ _ (at_kind (λ j. eqb (head_word (layout j).status 0 + (table_row j).start) (head_of (layout j) start 0)) refl k)
-
--- ---- how the code reaches each case
-module _ (status : ℕ) (ws : List ℕ) where
-  pub fresh_unknown : kind_of status ≡ Unknown → fresh_on status ws ≡ unchanged UnknownStatus ws
-  unfolding fresh_on
-  fresh_unknown e = rw e
-
-  module _ {k : Kind} (e : kind_of status ≡ Is k) where
-    pub fresh_short : length ws < 4 → fresh_on status ws ≡ unchanged NoRoom ws
-    unfolding fresh_on
-    fresh_short h = rw (e, eq-eqb (length ws / 4) 0 (omega arith))
-
-    pub fresh_done : 4 ≤ length ws → fresh_on status ws ≡ outcome A.Done (blank (head_of (layout k) start 0) ws)
-    unfolding fresh_on
-    fresh_done h = rw (e, ne_eqb (length ws / 4) 0 (λ z. omega arith)) (ap (outcome A.Done) (fresh-blank k ws h))

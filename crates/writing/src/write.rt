@@ -7,11 +7,11 @@ use buffer::packets::clear;
 use kinds::refusal::Refusal;
 use numbers::in_slots::{numbers_in_range, put_slots};
 use numbers::of_record::numbers_of;
-use records::answers::Answer;
 use records::message::{Message, kind_in};
 use table::rows::{head_of, row_of};
 
 // Every whole packet zero, then the head and the fields.
+#[tactic(auto, using(crate::proofs::Cases::put_own))]
 fn put_record(words: &mut [u32], message: Message)
     ensures { words.new ≡ put_record message words.old }
 {
@@ -21,21 +21,21 @@ fn put_record(words: &mut [u32], message: Message)
 }
 
 // Refusals 13 for a text kind, 12, 14.
-pub fn write(words: &mut [u32], message: Message) -> Answer
+#[tactic(auto, unfolding(standard::specs::Words::write_on), using(numbers::proofs::Accepted::text_row, numbers::proofs::Back::own_fits, crate::proofs::Cases::encoded))]
+pub fn write(words: &mut [u32], message: Message) -> Result<(), Refusal>
     ensures answer { result ≡ (write_on message words.old).answer }
     ensures buffer { words.new ≡ (write_on message words.old).words }
 {
     let kind = kind_in(message);
-    let row = row_of(kind);
-    if 1 < row.most_packets {
-        return Answer::Refused(Refusal::NoSuchField);
+    if 1 < row_of(kind).most_packets {
+        return Err(Refusal::NoSuchField);
     }
-    if numbers_in_range(kind, numbers_of(message)) {
-        if words.len() < 4 {
-            return Answer::Refused(Refusal::NoRoom);
-        }
-        put_record(words, message);
-        return Answer::Done;
+    if !numbers_in_range(kind, numbers_of(message)) {
+        return Err(Refusal::NumberTooLarge);
     }
-    Answer::Refused(Refusal::NumberTooLarge)
+    if words.len() < 4 {
+        return Err(Refusal::NoRoom);
+    }
+    put_record(words, message);
+    Ok(())
 }

@@ -1,13 +1,11 @@
--- `digits_of` meets its contract. Invariant: the digits counted, and those of the rest, are one more than the number has.
+-- `digits_of` meets its contract: one digit more than the power of ten that the number reaches.
 use native.Mathlib.Omega.{arith}
-use Rattle.ascii_lines.proofs.Room.{length_one, length_more, length_most}
+use mathlib.Core.Path.{sym}
+use Rattle.ascii_lines.proofs.Room.{length_one, length_power}
 use Rattle.ascii_lines.proofs.digits_of.Goals as goal
 
-pub loop-rest-init : goal.loop-rest-init
-loop-rest-init c = (omega arith, length_most _ c.ranges.n.fits)
+pub returns-in-None : goal.returns-in-None
+returns-in-None c = sym (length_one _ (omega (arith, c.in-None.ensures.none)))
 
-pub loop-rest-preserved : goal.loop-rest-preserved
-loop-rest-preserved c = let h = length_more c.loop-rest.rest c.loop-rest-test.true in (omega (arith, h), omega arith)
-
-pub returns : goal.returns
-returns c = let h = length_one c.loop-rest.rest c.loop-rest-test.false in omega (arith, h)
+pub returns-in-Some : goal.returns-in-Some
+returns-in-Some c = sym (length_power _ _ c.in-Some.ensures.power_le c.in-Some.ensures.next_power_gt)

@@ -1,12 +1,8 @@
--- `list` meets its contract, by the laws of `Room` and `Page` of lines.
-use mathlib.Core.Path.{refl}
-use Rattle.ascii_lines.proofs.Page.{◌⨾◌, says}
-use Rattle.listing.proofs.Room.{listed, too_long, all_listed}
+-- `list` meets its contract, by the laws of `Room` and `Puts` of lines.
+use Rattle.std.proofs.Common.{rules}
+use Rattle.ascii_lines.proofs.Puts.{given_back}
+use Rattle.listing.proofs.Room.{listed}
 use Rattle.listing.proofs.list.Goals as goal
 
-pub returns-then-bytes-gt32768 : goal.returns-then-bytes-gt32768
-returns-then-bytes-gt32768 c = listed _ _ _ _ (says c.put_text.ensures (too_long _ c.if-bytes-gt32768.true))
-
 pub returns : goal.returns
-returns c = let r = c.read_words-n.ensures in
-    listed _ _ _ _ (says (c.put_lines-p.ensures ⨾ c.put_end.ensures) (all_listed _ _ _ _ c.if-bytes-gt32768.false refl r.value r.words_after))
+returns c = listed _ _ _ _ (given_back c.new-writer.ensures c.put_listing.ensures c.end.ensures (search rules))

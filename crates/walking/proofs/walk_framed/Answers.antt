@@ -2,18 +2,17 @@
 use native.Mathlib.Omega.{arith}
 use native.Mathlib.Nat.{add-sub_cancel_left}
 use Rattle.standard.specs.Walk.{framed_of}
-use Rattle.standard.proofs.Next.{whole_room}
-use Rattle.walking.proofs.FramedRead.{framed_words, framed_read_lem}
+use Rattle.walking.proofs.FramedRead.{framed_room, framed_words, framed_read_lem}
 use Rattle.walking.proofs.walk_framed.Goals as goal
 
 pub overflow_add-after : goal.overflow_add-after
-overflow_add-after c = let r = whole_room _ _ c.frame-f.ensures c.in-Whole.is in omega (arith, r, framed_words _ _ c.frame-f.ensures c.in-Whole.is c.first_word.ensures (omega arith))
+overflow_add-after c = let e = c.in-Whole.ensures in omega (arith, framed_room _ _ e, framed_words _ _ e c.first_word.ensures (omega arith))
 
 pub slice_bounds-read_framed-end : goal.slice_bounds-read_framed-end
-slice_bounds-read_framed-end c = let r = whole_room _ _ c.frame-f.ensures c.in-Whole.is in omega (arith, r, framed_words _ _ c.frame-f.ensures c.in-Whole.is c.first_word.ensures (omega arith))
+slice_bounds-read_framed-end c = let e = c.in-Whole.ensures in omega (arith, framed_room _ _ e, framed_words _ _ e c.first_word.ensures (omega arith))
 
 pub returns-in-Whole : goal.returns-in-Whole
 unfolding framed_of
 returns-in-Whole c =
-    let is = c.in-Whole.is in
-    rw (← c.frame-f.ensures, is, ← framed_read_lem _ _ c.frame-f.ensures is, ← framed_words _ _ c.frame-f.ensures is c.first_word.ensures (omega arith), ← (rw (add-sub_cancel_left) at c.read_framed.ensures)) c.walk_read.ensures
+    let e = c.in-Whole.ensures in
+    rw (← e, ← framed_read_lem _ _ e, ← framed_words _ _ e c.first_word.ensures (omega arith), ← (rw (add-sub_cancel_left) at c.read_framed.ensures)) c.walk_read.ensures

@@ -1,9 +1,7 @@
 -- `device_identity::frayedbin_record_set_device_manufacturer` meets its contract, as the calls that it makes.
+use Rattle.std.proofs.Common.{rules}
 use Rattle.frayedbin.proofs.OneNumber.{manufacturer_own}
 use Rattle.frayedbin.proofs.device_identity.frayedbin_record_set_device_manufacturer.Goals as goal
 
-pub returns-in-Message : goal.returns-in-Message
-returns-in-Message c = manufacturer_own _ _ _ _ (rw (c.of_edited.ensures, c.set_device_manufacturer.ensures, ← c.record_of.ensures, c.in-Message.is))
-
-pub returns-in-Refused : goal.returns-in-Refused
-returns-in-Refused c = manufacturer_own _ _ _ _ (rw (c.refused_record.ensures, ← c.record_of.ensures, c.in-Refused.is))
+pub returns : goal.returns
+returns c = manufacturer_own _ c.map-edited.result c.edited.ensures c.args.a c.args.b c.args.c c.record_of.ensures (search rules)

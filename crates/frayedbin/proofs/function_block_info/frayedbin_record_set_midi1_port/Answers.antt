@@ -1,9 +1,7 @@
--- `function_block_info::frayedbin_record_set_midi1_port` meets its contract, as what it calls does.
+-- `function_block_info::frayedbin_record_set_midi1_port` meets its contract, as the calls that it makes.
+use Rattle.std.proofs.Common.{rules}
 use Rattle.frayedbin.proofs.OneNumber.{port_own}
 use Rattle.frayedbin.proofs.function_block_info.frayedbin_record_set_midi1_port.Goals as goal
 
-pub returns-in-Message : goal.returns-in-Message
-returns-in-Message c = rw (← c.port_from_code.ensures, c.in-Is.is) (port_own _ _ (rw (c.of_edited.ensures, c.set_midi1_port.ensures, ← c.record_of.ensures, c.in-Message.is)))
-
-pub returns-in-Refused : goal.returns-in-Refused
-returns-in-Refused c = rw (← c.port_from_code.ensures, c.in-Is.is) (port_own _ _ (rw (c.refused_record.ensures, ← c.record_of.ensures, c.in-Refused.is)))
+pub returns : goal.returns
+returns c = rw (← c.try_from.ensures, c.in-Ok.is) (port_own _ c.map-edited.result c.edited.ensures c.in-Ok.port c.record_of.ensures (search rules))

@@ -5,4 +5,4 @@ use Rattle.frayedbin.proofs.OneNumber.{flag-set}
 use Rattle.frayedbin.proofs.named.flag_in.Goals as goal
 
 pub returns : goal.returns
-returns c = rw bit_byte at c.one_in.ensures ∙ flag-set c.args.flag c.args.on _ c.flag_at-at.ensures
+returns c = rw (c.from.ensures, bit_byte) at c.one_in.ensures ∙ flag-set c.args.flag c.args.on _ c.flag_at-at.ensures

@@ -1,6 +1,6 @@
--- `answers::put_end` meets its contract, by the laws of `Page` of lines.
-use Rattle.ascii_lines.proofs.Page.{◌⨾◌}
+-- `answers::put_end` meets its contract, by the laws of `Puts` of lines.
+use Rattle.ascii_lines.proofs.Puts.{◌⨾◌}
 use Rattle.listing.proofs.answers.put_end.Goals as goal
 
 pub returns : goal.returns
-returns c = c.put_named-p.ensures ⨾ c.put_byte.ensures
+returns c = c.put_named.ensures ⨾ c.put_byte.ensures

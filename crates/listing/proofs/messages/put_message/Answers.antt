@@ -1,11 +1,11 @@
--- `messages::put_message` meets its contract, by the laws of `Numbers` and `Page` of lines.
+-- `messages::put_message` meets its contract, by the laws of `Numbers` and `Puts` of lines.
 use mathlib.Core.Path.{refl}
 use lib.Dec.{lit≤}
 use Rattle.laws.specs.Lists.{each}
 use Rattle.kinds.specs.Fields.{same, decided}
 use Rattle.kinds.specs.Layout.{layout}
 use Rattle.records.specs.Records.{fields_in, lookup, first_part}
-use Rattle.ascii_lines.proofs.Page.{says}
+use Rattle.ascii_lines.proofs.Puts.{says}
 use Rattle.sentences.specs.Sentences.{kind_name}
 use Rattle.listing.proofs.Numbers.{fixed_shown, name_shown, product_shown, block_name_shown}
 use Rattle.listing.proofs.messages.put_message.Goals as goal

@@ -5,4 +5,4 @@ use Rattle.standard.proofs.Formed.{read_formed}
 use Rattle.listing.proofs.one.show.Goals as goal
 
 pub put_message-requires : goal.put_message-requires
-put_message-requires c = let w = (read_formed _ _ (sym c.read-answer.ensures ∙ c.in-Message.is)).words in omega arith
+put_message-requires c = let w = (read_formed _ _ (sym c.read.ensures ∙ c.in-Ok.is)).words in omega arith

@@ -6,4 +6,4 @@ use Rattle.listing.proofs.words.read_words.Goals as goal
 
 pub loop-i-preserved : goal.loop-i-preserved
 loop-i-preserved c = let l = c.loop-i.invariant in
-    (l.0, omega arith, simp length-set l.2, rw (l.3, c.word_at.ensures) (up_to_more _ _ _ (omega arith)))
+    (l.0, simp length-set l.1, rw (l.2, c.word_at.ensures) (up_to_more _ _ _ (omega arith)))

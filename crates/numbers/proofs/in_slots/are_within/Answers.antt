@@ -1,17 +1,14 @@
--- `in_slots::are_within` meets its contract, by the laws of `Within`, turn by turn.
-use Rattle.numbers.proofs.Within.{within_short, within_bad, within_good, within_done}
-use native.Mathlib.Omega.{arith}
+-- `in_slots::are_within` meets its contract, by the laws of `Within`.
+use Rattle.std.proofs.Common.{rules, tests}
 use mathlib.Core.Path.{◌∙◌}
+use borrow.Author.Tests.{lt-leb}
+use Rattle.std.proofs.lemmas.Iterator.{YieldsList-from_slice, YieldsList-from_zip}
+use Rattle.std.proofs.lemmas.Iterator.Search.{all_from_yields_List}
+use Rattle.numbers.proofs.Within.{below_limit, within_pairs, within_short}
 use Rattle.numbers.proofs.in_slots.are_within.Goals as goal
 
-pub returns-then-numbers-i : goal.returns-then-numbers-i
-returns-then-numbers-i c = within_short _ _ c.loop-i.i c.loop-i-test.true c.if-numbers-i.true ∙ c.loop-i.invariant.1
+pub returns-then-limits-numbers : goal.returns-then-limits-numbers
+returns-then-limits-numbers c = all_from_yields_List below_limit c.all.new.self _ _ c.all.ensures.ran (YieldsList-from_zip (YieldsList-from_slice c.args.numbers.now cc) (YieldsList-from_slice c.args.limits.now cc)) (λ x b q k. search (rules, tests)) ∙ within_pairs _ _ c.if-limits-numbers.true
 
-pub returns-then-limits-i : goal.returns-then-limits-i
-returns-then-limits-i c = within_bad _ _ c.loop-i.i c.loop-i-test.true c.if-numbers-i.false c.if-limits-i.true ∙ c.loop-i.invariant.1
-
-pub loop-i-preserved : goal.loop-i-preserved
-loop-i-preserved c = (omega arith, within_good _ _ c.loop-i.i c.loop-i-test.true c.if-numbers-i.false c.if-limits-i.false ∙ c.loop-i.invariant.1)
-
-pub returns : goal.returns
-returns c = within_done _ _ c.loop-i.i c.loop-i-test.false ∙ c.loop-i.invariant.1
+pub returns-else-limits-numbers : goal.returns-else-limits-numbers
+returns-else-limits-numbers c = rw (within_short _ _ c.if-limits-numbers.false, lt-leb _ _ c.if-limits-numbers.false)

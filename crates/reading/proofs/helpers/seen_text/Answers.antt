@@ -1,15 +1,17 @@
 -- `helpers::seen_text` meets its contract: the packets that the heads say are there, and their text is good or not.
-use mathlib.Core.Path.{sym, ap, ◌∙◌}
-use Rattle.counts.specs.Counts.{packet}
-use Rattle.counts.specs.declared.PacketNumber.{PacketNumber}
-use Rattle.reading.proofs.Passes.{headed_to, headed_words, seen_good, seen_bad}
+use mathlib.Core.Path.{sym, ◌∙◌}
+use native.Mathlib.Omega.{arith}
+use Rattle.reading.proofs.Passes.{headed_to, headed_words, none_seen, seen_good, seen_bad}
 use Rattle.reading.proofs.helpers.seen_text.Goals as goal
 
-pub slice_bounds-good_text-end : goal.slice_bounds-good_text-end
-slice_bounds-good_text-end c = rw (headed_to _ _ c.headed_packets-packets.ensures c.first_word-to.ensures) (headed_words _ _ _ (sym (ap (λ (x : PacketNumber). x.0) c.headed_packets-packets.ensures)))
+pub returns-in_err-packets : goal.returns-in_err-packets
+returns-in_err-packets c = c.from_residual.ensures ∙ none_seen _ _ (sym c.in_err-packets.ensures)
 
-pub returns-then-good_text : goal.returns-then-good_text
-returns-then-good_text c = ap packet (seen_good _ _ _ (sym (ap (λ (x : PacketNumber). x.0) c.headed_packets-packets.ensures)) (rw (headed_to _ _ c.headed_packets-packets.ensures c.first_word-to.ensures) at (sym c.good_text.ensures ∙ c.if-good_text.true)))
+pub slice_bounds-good_text-end : goal.slice_bounds-good_text-end
+slice_bounds-good_text-end c = let e = sym c.in_ok-packets.ensures in rw (headed_to _ _ e c.first_word-to.ensures (omega arith)) (headed_words _ _ e)
+
+pub returns-then-not-good_text : goal.returns-then-not-good_text
+returns-then-not-good_text c = let e = sym c.in_ok-packets.ensures in seen_bad _ _ e (rw (headed_to _ _ e c.first_word-to.ensures (omega arith)) at (sym c.if-not-good_text.ensures))
 
 pub returns : goal.returns
-returns c = ap packet (seen_bad _ _ _ (sym (ap (λ (x : PacketNumber). x.0) c.headed_packets-packets.ensures)) (rw (headed_to _ _ c.headed_packets-packets.ensures c.first_word-to.ensures) at (sym c.good_text.ensures ∙ c.if-good_text.false)))
+returns c = let e = sym c.in_ok-packets.ensures in seen_good _ _ e (rw (headed_to _ _ e c.first_word-to.ensures (omega arith)) at (sym c.if-not-good_text.ensures))

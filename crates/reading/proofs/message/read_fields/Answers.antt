@@ -1,18 +1,26 @@
--- `message::read_fields` meets its contract, by the laws of `Repeats` and `Rules` of standard.
-use mathlib.Core.Path.{◌∙◌}
-use Rattle.standard.proofs.Rules.{ruled_here, ruled_past}
+-- `message::read_fields` meets its contract, by the laws of `Repeats` and `Search`.
+use mathlib.Core.Path.{◌≡◌, ◌∙◌}
+use native.Mathlib.Omega.{arith}
+use borrow.Author.Rules.{rules}
+use Rattle.bit_ops.specs.Parts.{part_in}
+use Rattle.kinds.specs.Layout.{layout}
+use Rattle.standard.specs.Reading.{other_field}
 use Rattle.reading.specs.Bodies.{fields_read}
-use Rattle.reading.proofs.Repeats.{late_first, none_late}
+use Rattle.reading.proofs.Search.{ruled_found, ruled_none}
+use Rattle.reading.proofs.Repeats.{other_block, late_rule, none_late}
 use Rattle.reading.proofs.message.read_fields.Goals as goal
 
-pub returns-then-b-packets_of : goal.returns-then-b-packets_of
-unfolding fields_read
-returns-then-b-packets_of c = ruled_here _ _ _ _ _ (c.first_broken-b.ensures ∙ late_first c.args.kind c.args.words.now (rw c.offset_of.ensures at c.if-offset_of-gt0.true)) (rw c.packets_of.ensures at c.if-b-packets_of.true)
+pub returns-then-offset_of-eq0 : goal.returns-then-offset_of-eq0
+returns-then-offset_of-eq0 c = c.read_body.ensures ∙ none_late c.args.kind c.args.words.now (omega (arith, c.offset_of.ensures)) c.requires.1
 
-pub returns-then-offset_of-gt0 : goal.returns-then-offset_of-gt0
-unfolding fields_read
-returns-then-offset_of-gt0 c = ruled_past _ _ _ _ _ (c.first_broken-b.ensures ∙ late_first c.args.kind c.args.words.now (rw c.offset_of.ensures at c.if-offset_of-gt0.true)) (rw c.packets_of.ensures at c.if-b-packets_of.false) c.read_body.ensures
+pub returns-in-Some : goal.returns-in-Some
+unfolding fields_read part_in
+returns-in-Some c =
+    let late = late_rule c.args.kind c.args.words.now (omega (arith, c.offset_of.ensures)) in
+    ruled_found _ _ _ _ (c.in-Some.ensures (other_field (layout c.args.kind).fields c.args.words.now) (λ p b h a. let e : b ≡ other_block c.args.words.now p = search rules in e ∙ late p))
 
 pub returns : goal.returns
-unfolding fields_read
-returns c = c.read_body-2.ensures ∙ none_late c.args.kind c.args.words.now (rw c.offset_of.ensures at c.if-offset_of-gt0.false) c.requires.1
+unfolding fields_read part_in
+returns c =
+    let late = late_rule c.args.kind c.args.words.now (omega (arith, c.offset_of.ensures)) in
+    ruled_none _ _ _ _ (c.in_default.ensures (other_field (layout c.args.kind).fields c.args.words.now) (λ p b h a. let e : b ≡ other_block c.args.words.now p = search rules in e ∙ late p)) c.read_body-2.ensures

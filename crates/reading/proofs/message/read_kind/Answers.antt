@@ -1,25 +1,33 @@
--- `message::read_kind` meets its contract, by the laws of `Pick` of laws and `Rules` of standard.
+-- `message::read_kind` meets its contract, rule by rule.
 use mathlib.Core.Path.{refl}
+use borrow.Author.Rules.{rules}
 use borrow.Author.Tests.{lt-ltb, le-ltb}
 use Rattle.laws.proofs.Pick.{here, past}
-use Rattle.standard.specs.Reading.{read_kind}
-use Rattle.standard.proofs.Rules.{ruled_here, ruled_past}
-use Rattle.reading.specs.Rules.{breaks_of}
+use Rattle.standard.specs.Reading.{other_status, other_format, read_kind}
 use Rattle.reading.specs.Bodies.{fields_read}
+use Rattle.reading.proofs.Search.{ruled_found, ruled_none}
 use Rattle.reading.proofs.message.read_kind.Goals as goal
 
-pub returns-then-s-n : goal.returns-then-s-n
-unfolding read_kind breaks_of
-returns-then-s-n c = ruled_here _ _ _ _ _ c.first_broken-s.ensures (rw c.packets_of-n.ensures at c.if-s-n.true)
+pub returns-in-Some : goal.returns-in-Some
+unfolding read_kind
+returns-in-Some c = ruled_found _ _ _ _ (c.in-Some.ensures (other_status c.args.words.now) (λ p b h a. search rules))
 
 pub returns-then-most_packets-n : goal.returns-then-most_packets-n
-unfolding read_kind breaks_of
-returns-then-most_packets-n c = ruled_past _ _ _ _ _ c.first_broken-s.ensures (rw c.packets_of-n.ensures at c.if-s-n.false) (here _ (lt-ltb _ _ (rw (c.most_packets.ensures, c.packets_of-n.ensures) at c.if-most_packets-n.true)) refl)
+unfolding read_kind
+returns-then-most_packets-n c =
+    ruled_none _ _ _ _ (c.in_default.ensures (other_status c.args.words.now) (λ p b h a. search rules))
+    (here _ (lt-ltb _ _ (rw (c.most_packets.ensures, c.packets_of-n.ensures) at c.if-most_packets-n.true)) refl)
 
-pub returns-then-f-n : goal.returns-then-f-n
-unfolding read_kind breaks_of
-returns-then-f-n c = ruled_past _ _ _ _ _ c.first_broken-s.ensures (rw c.packets_of-n.ensures at c.if-s-n.false) (past _ (le-ltb _ _ (rw (c.most_packets.ensures, c.packets_of-n.ensures) at c.if-most_packets-n.false)) (ruled_here _ _ _ _ _ c.first_broken-f.ensures (rw c.packets_of-n.ensures at c.if-f-n.true)))
+pub returns-in-Some-first_packet : goal.returns-in-Some-first_packet
+unfolding read_kind
+returns-in-Some-first_packet c =
+    ruled_none _ _ _ _ (c.in_default.ensures (other_status c.args.words.now) (λ p b h a. search rules))
+    (past _ (le-ltb _ _ (rw (c.most_packets.ensures, c.packets_of-n.ensures) at c.if-most_packets-n.false))
+    (ruled_found _ _ _ _ (c.in-Some-first_packet.ensures (other_format c.args.words.now) (λ p b h a. search rules))))
 
 pub returns : goal.returns
-unfolding read_kind breaks_of fields_read
-returns c = ruled_past _ _ _ _ _ c.first_broken-s.ensures (rw c.packets_of-n.ensures at c.if-s-n.false) (past _ (le-ltb _ _ (rw (c.most_packets.ensures, c.packets_of-n.ensures) at c.if-most_packets-n.false)) (ruled_past _ _ _ _ _ c.first_broken-f.ensures (rw c.packets_of-n.ensures at c.if-f-n.false) c.read_fields.ensures))
+unfolding read_kind fields_read
+returns c =
+    ruled_none _ _ _ _ (c.in_default.ensures (other_status c.args.words.now) (λ p b h a. search rules))
+    (past _ (le-ltb _ _ (rw (c.most_packets.ensures, c.packets_of-n.ensures) at c.if-most_packets-n.false))
+    (ruled_none _ _ _ _ (c.in_default-first_packet.ensures (other_format c.args.words.now) (λ p b h a. search rules)) c.read_fields.ensures))

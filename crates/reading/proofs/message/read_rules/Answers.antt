@@ -1,17 +1,18 @@
 -- `message::read_rules` meets its contract: the first rule, and what the kind gives.
-use Rattle.standard.proofs.Rules.{ruled_here, ruled_past}
-use Rattle.reading.specs.Rules.{breaks_of}
+use borrow.Author.Rules.{rules}
+use Rattle.standard.specs.Reading.{other_type}
 use Rattle.reading.specs.Bodies.{rules_read}
+use Rattle.reading.proofs.Search.{ruled_found, ruled_none}
 use Rattle.reading.proofs.message.read_rules.Goals as goal
 
-pub returns-then-t-packets_of : goal.returns-then-t-packets_of
-unfolding rules_read breaks_of
-returns-then-t-packets_of c = ruled_here _ _ _ _ _ c.first_broken-t.ensures (rw c.packets_of.ensures at c.if-t-packets_of.true)
+pub returns-in-Some : goal.returns-in-Some
+unfolding rules_read
+returns-in-Some c = ruled_found _ _ _ _ (c.in-Some.ensures (other_type c.args.words.now) (λ p b h a. search rules))
 
-pub returns-in-Unknown : goal.returns-in-Unknown
-unfolding rules_read breaks_of
-returns-in-Unknown c = ruled_past _ _ _ _ _ c.first_broken-t.ensures (rw c.packets_of.ensures at c.if-t-packets_of.false) (rw (← c.status_of.ensures, ← c.kind_of.ensures, c.in-Unknown.is))
+pub returns-in_default-kind_of : goal.returns-in_default-kind_of
+unfolding rules_read
+returns-in_default-kind_of c = ruled_none _ _ _ _ (c.in_default.ensures (other_type c.args.words.now) (λ p b h a. search rules)) (rw (← c.status_of.ensures, ← c.kind_of.ensures, c.in_default-kind_of.is))
 
-pub returns-in-Is : goal.returns-in-Is
-unfolding rules_read breaks_of
-returns-in-Is c = ruled_past _ _ _ _ _ c.first_broken-t.ensures (rw c.packets_of.ensures at c.if-t-packets_of.false) (rw (← c.status_of.ensures, ← c.kind_of.ensures, c.in-Is.is) c.read_kind.ensures)
+pub returns : goal.returns
+unfolding rules_read
+returns c = ruled_none _ _ _ _ (c.in_default.ensures (other_type c.args.words.now) (λ p b h a. search rules)) (rw (← c.status_of.ensures, ← c.kind_of.ensures, c.in-Some-kind_of.is) c.read_kind.ensures)

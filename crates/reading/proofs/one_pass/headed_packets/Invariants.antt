@@ -6,6 +6,3 @@ use Rattle.reading.proofs.one_pass.headed_packets.Given as goal
 
 abbrev pub invariant-loop-p : goal.invariant-loop-p
 invariant-loop-p l = headed_from 64 l.words l.offset 0 ≡ headed_from (64 - l.p) l.words l.offset l.p
-
-abbrev pub decreases-loop-p : goal.decreases-loop-p
-decreases-loop-p l = 64 - l.p

@@ -1,6 +1,7 @@
--- `places::nth_place` meets its contract, a slot at a time.
+-- `places::nth_place` meets its contract past the last slot.
+use Prim.Native.Nat.{◌≤◌}
+use native.Mathlib.Omega.{arith}
 use Rattle.laws.specs.Lists.{each}
-use Rattle.laws.proofs.EachBelow.{missed}
 use Rattle.kinds.specs.Layout.{layout}
 use Rattle.table.specs.Places.{every_slot}
 use Rattle.table.proofs.PlaceLaws.{past}
@@ -9,4 +10,4 @@ use Rattle.table.proofs.places.nth_place.Goals as goal
 
 pub returns-in_default : goal.returns-in_default
 unfolding each layout
-returns-in_default c = past every_slot (missed 36 _ c.in_default.in_default-own.rest) (search rules)
+returns-in_default c = let h : 36 ≤ c.args.n = omega arith in past every_slot h (search rules)

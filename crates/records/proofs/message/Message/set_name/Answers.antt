@@ -1,7 +1,0 @@
--- Setting `name` on a record.
-use mathlib.Core.Path.{◌∙◌}
-use Rattle.records.proofs.Settings.{no_text}
-use Rattle.records.proofs.message.Message.set_name.Goals as goal
-
-pub returns : goal.returns
-returns c = c.no_such_field.ensures ∙ no_text _ _ _
