@@ -5,7 +5,7 @@ use mathlib.Core.List.{List}
 use native.Mathlib.Omega.{arith}
 use lib.ListN.{length, get_or, take, drop, length-drop}
 use lib.Seq.{get_or-take, get_or-drop, length-take-le}
-use borrow.Author.Tests.{le-ltb}
+use borrow.Author.Tests.{lt-ltb, le-ltb}
 use Rattle.laws.specs.Bits.{word_of}
 use Rattle.text.specs.BigEndian.{big_endian_at}
 
@@ -13,6 +13,10 @@ module _ (bytes : List ℕ) (i : ℕ) where
   pub big_endian_in : i + 4 ≤ length bytes → big_endian_at bytes i ≡ word_of (get_or bytes i 0) (get_or bytes (i + 1) 0) (get_or bytes (i + 2) 0) (get_or bytes (i + 3) 0)
   unfolding big_endian_at
   big_endian_in h = rw (le-ltb (length bytes) (i + 4) h)
+
+  pub big_endian_out : length bytes < i + 4 → big_endian_at bytes i ≡ 0
+  unfolding big_endian_at
+  big_endian_out h = rw (lt-ltb (length bytes) (i + 4) h)
 
 -- four bytes of a part of a text
 module _ (text : List ℕ) (from len : ℕ) (room : from + len ≤ length text) where
