@@ -8,7 +8,7 @@ use lib.Dec.{eqb}
 use borrow.Author.Tests.{eq-eqb, ne_eqb}
 use Rattle.laws.specs.Pick.{pick}
 use Rattle.laws.specs.Lists.{up_to}
-use Rattle.laws.proofs.Lists.{up_to_more, up_to_rest, up_to_kept}
+use Rattle.laws.proofs.Lists.{length-up_to, up_to_more, up_to_rest, up_to_kept}
 
 pub record Filled (i : ℕ) (f : ℕ → ℕ) (found ws : List ℕ) : Type 0 where
   pub long : length ws ≡ length found
@@ -17,6 +17,10 @@ pub record Filled (i : ℕ) (f : ℕ → ℕ) (found ws : List ℕ) : Type 0 whe
 pub none_filled : (f : ℕ → ℕ) (ws : List ℕ) → Filled 0 f ws ws
 unfolding up_to
 none_filled f ws = record { long = refl; is = refl }
+
+-- the equation alone gives the length too
+pub is_filled : (i : ℕ) (f : ℕ → ℕ) (found ws : List ℕ) → ws ≡ up_to i f found → Filled i f found ws
+is_filled i f found ws e = record { long = rw e (length-up_to i f found); is = e }
 
 module _ {i : ℕ} {f : ℕ → ℕ} {found ws : List ℕ} (w : Filled i f found ws) where
   -- the words from i on are unchanged
