@@ -46,18 +46,28 @@ four_filled {f} {found} g k w h e₀ e₁ e₂ e₃ =
 pub four_words : (f : ℕ → ℕ) (a b c d : ℕ) → a ≡ f 0 → b ≡ f 1 → c ≡ f 2 → d ≡ f 3 → a ∷ b ∷ c ∷ d ∷ [] ≡ f 0 ∷ f 1 ∷ f 2 ∷ f 3 ∷ []
 four_words f a b c d ea eb ec ed = rw (ea, eb, ec, ed)
 
+-- the same, put into a buffer
+pub four_set : (f : ℕ → ℕ) (ws : List ℕ) (a b c d k k' : ℕ) → a ≡ f 0 → b ≡ f 1 → c ≡ f 2 → d ≡ f 3 → k' ≡ k → set (set (set (set ws k' a) (k' + 1) b) (k' + 2) c) (k' + 3) d ≡ packet_set f k ws
+four_set f ws a b c d k k' ea eb ec ed ek = rw (ea, eb, ec, ed, ek)
+
 -- the first word of a packet, as the code has it
 pub word_of : (p : PacketNumber) (w : WordNumber) → p.0 ≤ 64 → w ≡ wrapped (first_word p) → w.0 ≡ p.0 * 4
 word_of p w h e = ap (λ (x : WordNumber). x.0) (e ∙ first-word p.0 (omega arith))
 
--- one more packet, of its own four words
+-- one more packet, where its four words are those of the written text
+pub text_more : (text : List ℕ) (head : ℕ → ℕ) (cap n p : ℕ) {found ws : List ℕ} → Filled (p * 4) (word_new text head cap n) found ws → p < n → p * 4 + 4 ≤ length found → Filled ((p + 1) * 4) (word_new text head cap n) found (packet_set (word_in text head cap n p) (p * 4) ws)
+text_more text head cap n p {found} {ws} w h l =
+    let m : p * 4 + 4 ≡ (p + 1) * 4 = omega arith in
+    let z = word-packet text head cap n p 0 h (omega arith) in
+    rw m at
+    (four_filled {f = word_new text head cap n} {found = found} {ws = ws} (word_in text head cap n p) (p * 4) w l
+    (sym (rw (add-zero (p * 4)) at z)) (sym (word-packet text head cap n p 1 h (omega arith))) (sym (word-packet text head cap n p 2 h (omega arith))) (sym (word-packet text head cap n p 3 h (omega arith))))
+
+-- the same, where the packet has its own head and was made apart from the others
 pub packet_more : (text : List ℕ) (head : ℕ → ℕ) (offset n p : ℕ) {o h m : ℕ} {found ws four after : List ℕ} → Filled (p * 4) (word_new text head (14 - offset) n) found ws → p < n → p * 4 + 4 ≤ length found → m ≡ p → o ≡ offset → h ≡ head (due_format n p) → four ≡ packet_words text o h m → after ≡ packet_set (λ q. get_or four q 0) (m * 4) ws → Filled ((p + 1) * 4) (word_new text head (14 - offset) n) found after
 packet_more text head offset n p {h = h} {found = found} {ws = ws} w l r em eo eh e ea =
-    let s : p * 4 + 4 ≡ (p + 1) * 4 = omega arith in
-    let is : (q : ℕ) → q < 4 → word_in text (λ f. h) (14 - offset) 0 p q ≡ word_new text head (14 - offset) n (p * 4 + q) = λ q k. same_head text head (14 - offset) n p q h eh ∙ sym (word-packet text head (14 - offset) n p q l k) in
-    let first = rw (add-zero (p * 4)) at (is 0 (omega arith)) in
-    rw (ea, e, em, eo)
-    (rw s at (four_filled {f = word_new text head (14 - offset) n} {found = found} {ws = ws} (λ q. get_or (packet_words text offset h p) q 0) (p * 4) w r first (is 1 (omega arith)) (is 2 (omega arith)) (is 3 (omega arith))))
+    let is : (q : ℕ) → word_in text (λ f. h) (14 - offset) 0 p q ≡ word_in text head (14 - offset) n p q = λ q. same_head text head (14 - offset) n p q h eh in
+    rw (ea, e, em, eo, is 0, is 1, is 2, is 3) (text_more text head (14 - offset) n p {found = found} {ws = ws} w l r)
 
 -- filled up to word i, and zero from there on
 module _ (f : ℕ → ℕ) (i : ℕ) (ws : List ℕ) (l : i ≤ whole_words ws) (z : (k : ℕ) → i ≤ k → k < whole_words ws → 0 ≡ f k) where
@@ -78,6 +88,10 @@ module _ (f : ℕ → ℕ) (i : ℕ) (ws : List ℕ) (l : i ≤ whole_words ws) 
       at k h =
           ⊎_elim (λ (m : k < whole_words ws). up_to_below (whole_words ws) cleared (up_to i f ws) k m (rw (length-up_to i f ws) h) ∙ is_cleared k h m ∙ sym (up_to_below (whole_words ws) f ws k m h))
           (λ (m : whole_words ws ≤ k). up_to_rest (whole_words ws) cleared (up_to i f ws) k m ∙ up_to_rest i f ws k (omega arith) ∙ sym (up_to_rest (whole_words ws) f ws k m)) (below k (whole_words ws))
+
+pub length_cleared : (i : ℕ) (ws : List ℕ) → length (clear_from i ws) ≡ length ws
+unfolding clear_from
+length_cleared i ws = length-up_to _ _ ws
 
 -- every packet zero, with a head in the first
 module _ (head : ℕ) (ws : List ℕ) where
