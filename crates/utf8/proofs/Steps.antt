@@ -10,8 +10,9 @@ use Rattle.counts.specs.Counts.{byte}
 use Rattle.counts.specs.declared.TextByteNumber.{TextByteNumber}
 use Rattle.utf8.specs.declared.scan.LastCharacter.{LastCharacter}
 use Rattle.utf8.specs.declared.skipping_zeros.SkippingScan.{SkippingScan}
+use Rattle.utf8.specs.declared.skipping_zeros.KeptScan.{KeptScan}
 use Rattle.utf8.specs.Utf8.{Range, ◌‥◌, inside, tail, due_after, going, stopped, start_char, next_state, verdict, verdict_from, first_bad}
-use Rattle.utf8.specs.Scan.{Scan, leading_ones, length_by_ones, char_length, second_low, second_high, tails_due, second_due, after_first_byte, after_byte, verdict_at_end, due_ranges, meaning, new_skipping_scan, one_read, after_read, verdict_after}
+use Rattle.utf8.specs.Scan.{Scan, leading_ones, length_by_ones, char_length, second_low, second_high, tails_due, second_due, after_first_byte, after_byte, verdict_at_end, due_ranges, meaning, new_skipping_scan, one_read, after_read, verdict_after, new_kept_scan, after_kept, verdict_kept}
 use Rattle.utf8.proofs.Same.{same_ranges, same_due, same_due_eq}
 use Rattle.utf8.proofs.Valid.{verdict_stopped}
 
@@ -92,7 +93,7 @@ abbrev pub verdict_of : List ℕ → Scan → ℕ → Result (Unit {0}) TextByte
 verdict_of text s i = verdict_from (meaning s) i (drop i text)
 
 module _ (text : List ℕ) (s : Scan) (i : ℕ) (h : i < length text) (f : get_or text i 0 < 256) where
-  scan_turn : verdict_of text (after_byte s (byte i) (get_or text i 0)) (i + 1) ≡ verdict_of text s i
+  pub scan_turn : verdict_of text (after_byte s (byte i) (get_or text i 0)) (i + 1) ≡ verdict_of text s i
   scan_turn = rw (add-one, byte_law s (byte i) (get_or text i 0) f, drop-cons text i 0 h)
 
   -- the check goes on, or its verdict stands
@@ -142,3 +143,66 @@ skipping_turn text q i h f k = rw (drop-cons text i 0 h) (skipping_law q (get_or
 pub skipping_finish : (text : List ℕ) (r : SkippingScan) (i : ℕ) → length text ≤ i → verdict_at_end (Ok r.last) ≡ verdict_after (Ok r) (drop i text)
 unfolding nonzero
 skipping_finish text r i h = rw (drop_of_length-le text h) (end_law (Ok r.last))
+
+-- ---- the same for a check that is kept whether or not it stopped
+
+pub kept_start : (xs : List ℕ) → verdict_kept new_kept_scan xs ≡ first_bad (nonzero xs)
+unfolding first_bad
+kept_start xs = refl
+
+kept_law : (r : KeptScan) (b : ℕ) (xs : List ℕ) → b < 256 → r.at.0 + 1 < 2 ^ 64 → verdict_kept (after_kept r b) xs ≡ verdict_kept r (b ∷ xs)
+unfolding after_kept nonzero
+kept_law r zero xs h k = refl
+kept_law r (suc n) xs h k = rw (eqb-suc-zero, mod-eq_of_lt k, add-one, byte_law r.scan r.at (suc n) h)
+
+-- the count of nonzero bytes grows by at most one, after a stop too
+pub kept_count : (r : KeptScan) (b : ℕ) → (after_kept r b).at.0 ≤ r.at.0 + 1
+unfolding after_kept
+kept_count r zero = omega arith
+kept_count r (suc k) = rw eqb-suc-zero (omega arith)
+
+-- a kept check that has stopped has its verdict
+pub kept_early : (r : KeptScan) (xs : List ℕ) (n : TextByteNumber) (v : Result (Unit {0}) TextByteNumber) → r.scan ≡ Err n → verdict_kept r xs ≡ v → Err n ≡ v
+kept_early r xs n v e h = sym (after_stop n r.at.0 (nonzero xs)) ∙ (rw e at h)
+
+-- one turn of a loop that keeps its check, and its end
+pub kept_turn : (text : List ℕ) (q r : KeptScan) (i : ℕ) → i < length text → get_or text i 0 < 256 → q.at.0 + 1 < 2 ^ 64 → r ≡ after_kept q (get_or text i 0) → verdict_kept r (drop (suc i) text) ≡ verdict_kept q (drop i text)
+kept_turn text q r i h f k e = rw (e, drop-cons text i 0 h) (kept_law q (get_or text i 0) (drop (suc i) text) f k)
+
+pub kept_finish : (text : List ℕ) (r : KeptScan) (i : ℕ) → length text ≤ i → verdict_at_end r.scan ≡ verdict_kept r (drop i text)
+unfolding nonzero
+kept_finish text r i h = rw (drop_of_length-le text h) (end_law r.scan)
+
+-- ---- the two forms of the check
+
+-- a check that goes on, as it is kept
+abbrev pub kept : SkippingScan → KeptScan
+kept r = record { scan = Ok r.last; at = r.at }
+
+-- a kept check is where the other form is: at the same character and count, or stopped at the same place
+abbrev pub KeptAs : Result SkippingScan TextByteNumber → KeptScan → Type 0
+KeptAs (Err n) k = k.scan ≡ Err n
+KeptAs (Ok r) k = k ≡ kept r
+
+one_kept : (at : TextByteNumber) (s : Scan) → KeptAs (one_read at s) (record { scan = s; at = byte ((at.0 + 1) % 2 ^ 64) })
+one_kept at (Err n) = refl
+one_kept at (Ok c) = refl
+
+stop_kept : (k : KeptScan) (n : TextByteNumber) (b : ℕ) → k.scan ≡ Err n → (after_kept k b).scan ≡ Err n
+unfolding after_kept after_byte
+stop_kept k n zero e = e
+stop_kept k n (suc b) e = rw (eqb-suc-zero, e)
+
+go_kept : (r : SkippingScan) (b : ℕ) → KeptAs (after_read (Ok r) b) (after_kept (kept r) b)
+unfolding after_read after_kept
+go_kept r zero = refl
+go_kept r (suc b) = rw eqb-suc-zero (one_kept r.at (after_byte (Ok r.last) r.at (suc b)))
+
+-- both forms begin and step together, so where one stops the other has stopped there too
+pub kept_begins : KeptAs (Ok new_skipping_scan) new_kept_scan
+kept_begins = refl
+
+pub kept_steps : (r : Result SkippingScan TextByteNumber) (k : KeptScan) (b : ℕ) → KeptAs r k → KeptAs (after_read r b) (after_kept k b)
+unfolding after_read
+kept_steps (Err n) k b e = stop_kept k n b e
+kept_steps (Ok r) k b e = rw e (go_kept r b)

@@ -6,6 +6,7 @@ use Rattle.counts.specs.Counts.{byte}
 use Rattle.counts.specs.declared.TextByteNumber.{TextByteNumber}
 use Rattle.utf8.specs.Utf8.{Range, ◌‥◌, tail, inside, State, going, stopped, verdict_from}
 use Rattle.utf8.specs.declared.skipping_zeros.SkippingScan.{SkippingScan}
+use Rattle.utf8.specs.declared.skipping_zeros.KeptScan.{KeptScan}
 use Rattle.utf8.specs.declared.scan.LastCharacter.{LastCharacter}
 
 -- a check on its way: the character reached, or the place of the bad character that stopped it
@@ -109,3 +110,17 @@ after_read (Ok r) b = pick (b == 0) (Ok r) (one_read r.at (after_byte (Ok r.last
 abbrev pub verdict_after : Result SkippingScan TextByteNumber → List ℕ → Result (Unit {0}) TextByteNumber
 verdict_after (Err n) xs = Err n
 verdict_after (Ok r) xs = verdict_from (meaning (Ok r.last)) r.at.0 (nonzero xs)
+
+-- ---- zero bytes skipped, by a check that is kept whether or not it stopped
+
+-- a kept check that has read nothing
+abbrev pub new_kept_scan : KeptScan
+new_kept_scan = record { scan = Ok new_scan; at = byte 0 }
+
+-- the kept check after one more byte, counted after a stop too; the count wraps at 2 ^ 64, which no slice reaches
+unfoldable pub after_kept : KeptScan → ℕ → KeptScan
+after_kept r b = pick (b == 0) r (record { scan = after_byte r.scan r.at b; at = byte ((r.at.0 + 1) % 2 ^ 64) })
+
+-- the verdict of a kept check if the bytes xs are still to come
+abbrev pub verdict_kept : KeptScan → List ℕ → Result (Unit {0}) TextByteNumber
+verdict_kept r xs = verdict_from (meaning r.scan) r.at.0 (nonzero xs)

@@ -1,7 +1,8 @@
 // The check of a text with its zero bytes skipped, so that the text need not be copied without them.
 ghost use Rattle.std.specs.Prelude.{◌≡◌, Ok};
-ghost use Rattle.utf8.specs.Scan.{new_skipping_scan, after_read, verdict_at_end};
+ghost use Rattle.utf8.specs.Scan.{new_skipping_scan, after_read, new_kept_scan, after_kept, verdict_at_end};
 
+use crate::scan;
 use crate::scan::LastCharacter;
 use counts::TextByteNumber;
 
@@ -54,4 +55,37 @@ pub fn after_byte(
     ensures { result ≡ after_read check b }
 {
     check?.after_byte(b)
+}
+
+// A check that is kept whether or not it stopped, and the number of nonzero bytes read so far, those after a stop too.
+#[derive(Clone, Copy)]
+pub struct KeptScan {
+    pub scan: Result<LastCharacter, TextByteNumber>,
+    pub at: TextByteNumber,
+}
+
+impl KeptScan {
+    // A check that has read nothing.
+    pub fn before_text() -> KeptScan
+        ensures { result ≡ new_kept_scan }
+    {
+        KeptScan {
+            scan: Ok(LastCharacter::before_text()),
+            at: TextByteNumber(0),
+        }
+    }
+}
+
+// The kept check after one more byte. A zero byte changes nothing; after a stop the others are still counted.
+#[tactic(auto, unfolding(crate::specs::Scan::after_kept))]
+pub fn read_byte(check: KeptScan, b: u8) -> KeptScan
+    ensures { result ≡ after_kept check b }
+{
+    match b {
+        0 => check,
+        _ => KeptScan {
+            scan: scan::after_byte(check.scan, check.at, b),
+            at: TextByteNumber(std::num::wrapping_add_usize(check.at.0, 1)),
+        },
+    }
 }
