@@ -7,6 +7,7 @@ use Rattle.utf8.specs.Utf8.{first_bad}
 use Rattle.utf8.specs.Scan.{Scan, after_byte}
 use Rattle.utf8.specs.declared.scan.LastCharacter.{LastCharacter}
 use Rattle.text.specs.Octets.{octet_of}
+use Rattle.text.specs.BigEndian.{big_endian_at}
 use Rattle.counts.specs.declared.TextByteNumber.{TextByteNumber}
 
 -- whether a verdict is Ok
@@ -100,6 +101,10 @@ run_of_twelve due a b c =
     (pick (eqb due 1) (run_one_due a && (run_none_due b && run_two_due c))
     (pick (eqb due 2) (run_two_due a && (run_one_due b && run_none_due c)) false))
 
+-- the twelve bytes of a text from byte i on are four simple characters
+unfoldable pub run_at : List ℕ → ℕ → Bool
+run_at text i = run_none_due (big_endian_at text i) && (run_two_due (big_endian_at text (i + 4)) && run_one_due (big_endian_at text (i + 8)))
+
 -- ---- words
 
 -- all four octets are below 128
@@ -153,6 +158,10 @@ pub record AsciiStart (ws : List ℕ) (offset n : ℕ) : Type 0 where
   pub ascii : (p : ℕ) → p < n → ascii_packet ws offset p ≡ true
 
 -- ---- a text as it is given
+
+-- how many octets at the start of a word are surely whole characters; 0 if these tests cannot tell
+unfoldable pub whole_characters : ℕ → ℕ
+whole_characters w = pick (ascii_word w) 4 (pick (simple_character (octet_of w 0) (octet_of w 1) (octet_of w 2)) 3 0)
 
 -- the bytes i to j of a text are whole characters, so they may be skipped: the rest is good exactly if the text from i is
 pub record Skipped (text : List ℕ) (i j : ℕ) : Type 0 where

@@ -1,7 +1,9 @@
 // The fast check of a text given as bytes, where a zero byte is a character. Whole characters are skipped several at a time by looks; the scan takes the rest byte by byte.
 ghost use Rattle.std.specs.Prelude.{◌≡◌, ℕ, ◌+◌, ◌<◌, ◌≤◌, length, drop, false, MatchOption};
 ghost use Rattle.utf8.specs.Utf8.{first_bad};
-ghost use Rattle.text_check.specs.FastCheck.{is_good, Skipped};
+ghost use Rattle.laws.specs.Pick.{pick};
+ghost use Rattle.text.specs.BigEndian.{big_endian_at};
+ghost use Rattle.text_check.specs.FastCheck.{is_good, ascii_word, run_at, whole_characters, Skipped};
 
 use crate::ascii::ascii_word;
 use crate::by_scan::none_open;
@@ -13,7 +15,8 @@ use utf8::scan::LastCharacter;
 // 4 if the four bytes from byte i on are ASCII, otherwise 0. Here and below 0 is a count too: no byte is skipped.
 fn ascii_at(text: &[u8], i: usize) -> usize
     requires { i + 4 ≤ length text.now }
-    ensures { Skipped text.now i (i + result) }
+    ensures count { result ≡ pick (ascii_word (big_endian_at text.now i)) 4 0 }
+    ensures skipped { Skipped text.now i (i + result) }
 {
     if ascii_word(big_endian(text, i)) {
         4
@@ -23,9 +26,11 @@ fn ascii_at(text: &[u8], i: usize) -> usize
 }
 
 // 12 if the twelve bytes from byte i on are four simple three-byte characters, otherwise 0.
+#[tactic(auto, unfolding(crate::specs::FastCheck::run_at))]
 fn run_at(text: &[u8], i: usize) -> usize
     requires { i + 12 ≤ length text.now }
-    ensures { Skipped text.now i (i + result) }
+    ensures count { result ≡ pick (run_at text.now i) 12 0 }
+    ensures skipped { Skipped text.now i (i + result) }
 {
     if run_none_due(big_endian(text, i))
         && run_two_due(big_endian(text, i + 4))
@@ -38,9 +43,11 @@ fn run_at(text: &[u8], i: usize) -> usize
 }
 
 // 4 if the four bytes from byte i on are ASCII, 3 if they start with a simple three-byte character, otherwise 0.
+#[tactic(auto, unfolding(crate::specs::FastCheck::whole_characters))]
 fn whole_at(text: &[u8], i: usize) -> usize
     requires { i + 4 ≤ length text.now }
-    ensures { Skipped text.now i (i + result) }
+    ensures count { result ≡ whole_characters (big_endian_at text.now i) }
+    ensures skipped { Skipped text.now i (i + result) }
 {
     let w = big_endian(text, i);
     let [a, b, c, _] = octets(w);
