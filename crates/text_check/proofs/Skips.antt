@@ -6,9 +6,10 @@ use mathlib.Core.Bool.{Bool, true}
 use mathlib.Core.List.{List}
 use native.Mathlib.Numerals.{add-one}
 use native.Mathlib.Omega.{arith}
+use lib.Dec.{lit≤}
 use lib.ListN.{length, get_or, drop, drop_of_length-le}
 use lib.Seq.{drop-cons}
-use Rattle.laws.proofs.Pick.{below}
+use Rattle.laws.proofs.Pick.{split, below}
 use Rattle.counts.specs.Counts.{byte}
 use Rattle.utf8.specs.Utf8.{first_bad}
 use Rattle.utf8.specs.Scan.{Scan, after_byte}
@@ -16,7 +17,7 @@ use Rattle.text.specs.Octets.{octet_of}
 use Rattle.text.proofs.Back.{octet_word}
 use Rattle.text.specs.BigEndian.{big_endian_at}
 use Rattle.text.proofs.BigEndian.{big_endian_in}
-use Rattle.text_check.specs.FastCheck.{is_good, none_open, ascii_word, simple_character, run_none_due, run_one_due, run_two_due, Skipped}
+use Rattle.text_check.specs.FastCheck.{is_good, none_open, ascii_word, simple_character, run_none_due, run_one_due, run_two_due, whole_characters, Skipped}
 use Rattle.text_check.proofs.KnownSteps.{tails, Leads, WordSteps, ascii_steps, none_due_steps, one_due_steps, two_due_steps, simple_steps}
 use Rattle.text_check.proofs.Progress.{WillAnswer, answer_start, answer_end, answer_open, answer_keeping}
 
@@ -36,7 +37,7 @@ module _ (text : List ℕ) (v : Bool) where
   none_open_lem k i o st = sym (answer_open k (drop i text) o) ∙ st.answer
 
   module _ (small : (k : ℕ) → get_or text k 0 < 256) where
-    bytes_turn : (k : Scan) (i : ℕ) → i < length text → AtByte k i → AtByte (after_byte k (byte 0) (get_or text i 0)) (i + 1)
+    pub bytes_turn : (k : Scan) (i : ℕ) → i < length text → AtByte k i → AtByte (after_byte k (byte 0) (get_or text i 0)) (i + 1)
     bytes_turn k i h st = rw add-one (answer_keeping (get_or text i 0) (small i) (rw (drop-cons text i 0 h) at st))
 
     -- the same for a result that is equal to that step
@@ -90,6 +91,15 @@ module _ (text : List ℕ) (v : Bool) where
       word_turn k st = last_turn k.second k.third k.fourth (first_turn k.first st)
 
 -- ---- `Skipped`: bytes that are whole characters
+pub skip_none : (text : List ℕ) (i : ℕ) → i ≤ length text → Skipped text i i
+skip_none text i h = record { forward = omega arith; in_bounds = h; same-verdict = refl }
+
+pub skip_more : {text : List ℕ} {i j k : ℕ} → Skipped text i j → Skipped text j k → Skipped text i k
+skip_more p q = record { forward = omega (arith, p.forward, q.forward); in_bounds = q.in_bounds; same-verdict = q.same-verdict ∙ p.same-verdict }
+
+-- skipping whole characters keeps the answer
+pub skip_at : (text : List ℕ) (v : Bool) (k : Scan) (i j : ℕ) → none_open k ≡ true → Skipped text i j → AtByte text v k i → AtByte text v k j
+skip_at text v k i j o p st = open_none text v k j o (p.same-verdict ∙ none_open_lem text v k i o st)
 
 -- the scan has read whole characters
 pub skip_read : (text : List ℕ) (k : Scan) (i j : ℕ) → i ≤ j → j ≤ length text → none_open k ≡ true → AtByte text (is_good (first_bad (drop i text))) k j → Skipped text i j
@@ -149,3 +159,9 @@ module _ (text : List ℕ) (small : (k : ℕ) → get_or text k 0 < 256) where
       let second = (rw e₈ at (word_turn text _ small (i + 4) (omega arith) (two_due_steps _ f) first)) in
       let third = (rw e₁₂ at (word_turn text _ small (i + 8) (omega arith) (one_due_steps _ g) second)) in
       skipped_to i (i + 12) (omega arith) h third
+
+pub whole_most : (w : ℕ) → whole_characters w ≤ 4
+unfolding whole_characters
+whole_most w =
+    split (ascii_word w) (λ e. rw e (lit≤ tt))
+    (λ e. split (simple_character (octet_of w 0) (octet_of w 1) (octet_of w 2)) (λ f. rw (e, f) (lit≤ tt)) (λ f. rw (e, f) (lit≤ tt)))

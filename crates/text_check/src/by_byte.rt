@@ -16,8 +16,8 @@ fn after_packet(
     packet: PacketNumber,
 ) -> Result<SkippingScan, TextByteNumber>
     requires in_words { packet.0 < length words.now / 4 }
-    requires before { HasRead words.now (14 - offset) (Ok check) (packet.0 * (14 - offset)) }
-    ensures { HasRead words.now (14 - offset) result ((packet.0 + 1) * (14 - offset)) }
+    requires before { HasRead words.now (14 - offset) (length words.now / 4) (Ok check) (packet.0 * (14 - offset)) }
+    ensures { HasRead words.now (14 - offset) (length words.now / 4) result ((packet.0 + 1) * (14 - offset)) }
 {
     let mut check = check;
     for b in 0..usize::saturating_sub(14, offset) {
