@@ -1,6 +1,6 @@
 -- The laws of a writer: one text after another, the invariant of a loop that writes, and what the lender of the buffer learns. From the laws of a page.
 use Prim.Native.Nat.{ℕ}
-use mathlib.Core.Path.{◌≡◌, refl, ◌∙◌}
+use mathlib.Core.Path.{◌≡◌, refl, sym, ◌∙◌}
 use mathlib.Core.List.{List, [], ◌++◌}
 use Rattle.std.specs.Borrow.{MutBor}
 use Rattle.ascii_lines.specs.declared.Writer.{Writer}
@@ -18,6 +18,10 @@ nothing r = record { same_buffer = refl; wrote = page.nothing r.at r.out.now }
 -- the same text in other terms
 pub says : {r s : Writer} {a b : List ℕ} → Puts r a s → a ≡ b → Puts r b s
 says w e = rw (← e) w
+
+-- ANY TWO OUTCOMES are equal: the buffer that the writer has, its place and its bytes
+pub same_outcome : {r s t : Writer} {a : List ℕ} → Puts r a s → Puts r a t → (s.out.ghost_name ≡ t.out.ghost_name) × (page.page s.at s.out.now ≡ page.page t.at t.out.now)
+same_outcome v w = (v.same_buffer ∙ sym w.same_buffer, page.same_outcome v.wrote w.wrote)
 
 -- ---- the loop invariant: writing the remaining text from here gives the whole text written from the start
 pub record ToPut (r : Writer) (text : List ℕ) (s : Writer) (left : List ℕ) : Type 0 where

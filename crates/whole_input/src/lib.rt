@@ -1,8 +1,8 @@
 // Standard input, or any other reader, read until a buffer is full.
 #![tactic(auto)]
 
-ghost use Rattle.std.specs.Prelude.{◌≡◌, ◌<◌, length, take, OnOk, OnErr};
-ghost use Rattle.whole_input.specs.Counts.{IsPrefixLen, bytes_read};
+ghost use Rattle.std.specs.Prelude.{◌≡◌, ◌<◌, length, take, OnOk, OnErr, Some};
+ghost use Rattle.whole_input.specs.Counts.{IsPrefixLen, bytes_read, cut_short_text};
 ghost use Rattle.std.specs.Io.KnownBytes.{Consumes, IsAtEnd};
 
 use std::error::Error;
@@ -16,6 +16,8 @@ pub struct CutShort {
 }
 
 impl fmt::Display for CutShort {
+    ghost output = { λ cut. Some (cut_short_text cut) };
+
     fn fmt<W: fmt::Write>(&self, f: &mut fmt::Formatter<W>) -> fmt::Result {
         write!(f, "a read failed after {} bytes", self.after)
     }
