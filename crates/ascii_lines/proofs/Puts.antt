@@ -4,7 +4,7 @@ use mathlib.Core.Path.{◌≡◌, refl, sym, ◌∙◌}
 use mathlib.Core.List.{List, [], ◌++◌}
 use Rattle.std.specs.Borrow.{MutBor}
 use Rattle.ascii_lines.specs.declared.Writer.{Writer}
-use Rattle.ascii_lines.specs.Page.{Wrote, Opens, Puts}
+use Rattle.ascii_lines.specs.Page.{page as page_at, Wrote, Opens, Puts}
 use Rattle.ascii_lines.proofs.Page as page
 
 -- ONE TEXT AND THEN ANOTHER is both joined; every line is built this way
@@ -20,7 +20,7 @@ pub says : {r s : Writer} {a b : List ℕ} → Puts r a s → a ≡ b → Puts r
 says w e = rw (← e) w
 
 -- ANY TWO OUTCOMES are equal: the buffer that the writer has, its place and its bytes
-pub same_outcome : {r s t : Writer} {a : List ℕ} → Puts r a s → Puts r a t → (s.out.ghost_name ≡ t.out.ghost_name) × (page.page s.at s.out.now ≡ page.page t.at t.out.now)
+pub same_outcome : {r s t : Writer} {a : List ℕ} → Puts r a s → Puts r a t → (s.out.ghost_name ≡ t.out.ghost_name) × (page_at s.at s.out.now ≡ page_at t.at t.out.now)
 same_outcome v w = (v.same_buffer ∙ sym w.same_buffer, page.same_outcome v.wrote w.wrote)
 
 -- ---- the loop invariant: writing the remaining text from here gives the whole text written from the start

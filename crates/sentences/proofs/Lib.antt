@@ -1,3 +1,4 @@
+pub mod Strings
 pub mod Sentences
 pub mod Told
 pub mod StringLaws

@@ -12,11 +12,7 @@ use borrow.Author.Tests.{leb-true, ne_eqb}
 use Rattle.laws.specs.Pick.{both}
 use Rattle.laws.proofs.Pick.{both_left, both_right}
 use Rattle.sentences.specs.Strings.{as_string, zero_at, StringIn, c_text, printable}
-use Rattle.std.proofs.lemmas.Grind.{common_steps}
-
--- the bytes after the zero, said by the text and by as much of it as there is room for
-after_zero : (text out : List ℕ) → drop (length (take (length out) text)) out ≡ drop (length text) out
-after_zero text out = grind (arith, common_steps)
+use Rattle.sentences.proofs.Strings.{after_zero}
 
 -- ---- the parts, in a buffer with a byte
 module _ (text : List ℕ) (byte : ℕ) (out : List ℕ) where

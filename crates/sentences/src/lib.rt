@@ -3,11 +3,22 @@
 #![tactic(auto)]
 
 ghost use Rattle.std.specs.Prelude.{◌≡◌, length};
+ghost use Rattle.ascii_lines.specs.Page.{Wrote};
 ghost use Rattle.sentences.specs.Strings.{as_string};
 ghost use Rattle.sentences.specs.Sentences.{refusal_sentence, kind_name, status_name};
 
+use ascii_lines::Writer;
 use kinds::kind::Kind;
 use table::rows::kind_of;
+
+// Writes as much of a text as the buffer has room for, and answers how much. By a writer, since a copy of a slice would make the library need memcpy from outside.
+fn put_front(out: &mut [u8], text: &[u8]) -> usize
+    ensures { Wrote 0 out.old text.now result out.new }
+{
+    let mut writer = Writer::new(out);
+    writer.put_text(text);
+    writer.end()
+}
 
 // Writes a text and a zero byte after it. The last byte of the buffer is kept for the zero.
 fn put_string(out: &mut [u8], text: &[u8]) -> usize
@@ -15,8 +26,7 @@ fn put_string(out: &mut [u8], text: &[u8]) -> usize
     ensures bytes { out.new ≡ as_string text.now out.old }
 {
     if let Some(last) = out.len().checked_sub(1) {
-        let end = text.len().min(last);
-        out[..end].copy_from_slice(&text[..end]);
+        let end = put_front(&mut out[..last], text);
         out[end] = 0;
     }
     text.len()

@@ -17,7 +17,8 @@ fn word_length(w: u32) -> usize
     ensures value { result ≡ count_by (λ x. not (x == 0)) (to_be_bytes w32 w) }
     ensures small { result ≤ 4 }
 {
-    w.to_be_bytes().iter().filter(|&&octet| octet != 0).count()
+    let [a, b, c, d] = w.to_be_bytes();
+    usize::from(a != 0) + usize::from(b != 0) + usize::from(c != 0) + usize::from(d != 0)
 }
 
 // How many octets of a packet's four words are not zero.
