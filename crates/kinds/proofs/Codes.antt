@@ -73,6 +73,9 @@ no_code_direction D.Output e = omega arith
 no_code_direction D.Bidirectional e = omega arith
 
 -- ---- a flag and a code fit their bits
+pub bit_fits : (b : Bool) → ltb (bit b) 2 ≡ true
+bit_fits true = refl
+bit_fits false = refl
 
 pub hint_fits : (h : UiHint) → ltb (hint_code h) 4 ≡ true
 hint_fits H.Undeclared = refl
