@@ -1,7 +1,7 @@
 -- What the proofs of the methods on a record go by: what to unfold, and who lacks a field. Closed by cases on the kind.
 use Rattle.std.specs.Prelude.{Err}
 use Prim.Native.Nat.{ℕ, ◌<◌, ◌≤◌}
-use mathlib.Core.Path.{◌≡◌, refl, sym, subst}
+use mathlib.Core.Path.{◌≡◌, refl, sym, ◌∙◌, subst}
 use mathlib.Core.Bool.{Bool, false, not}
 use mathlib.Core.Logic.{⊎_elim}
 use mathlib.Core.List.{List, [], ◌∷◌}
@@ -26,6 +26,7 @@ use Rattle.records.specs.declared.device_identity.DeviceIdentity.{DeviceIdentity
 use Rattle.records.specs.declared.function_block_info.FunctionBlockInfo.{FunctionBlockInfo}
 use Rattle.records.specs.declared.message.Message.{Message}
 use Rattle.records.specs.declared.message.Message.TheVariants as M
+use Rattle.records.specs.declared.answers.Edited.{Edited}
 use Rattle.records.specs.Records.{kind_in, record_of, fields_in, lookup}
 use Rattle.records.specs.Settings.{edited, set_record, septets}
 use Rattle.records.proofs.Settings.{lacking}
@@ -59,8 +60,13 @@ unfolding layout those same decided fits both part_of record_of fields_in lookup
 setting = tt
 
 -- ---- the field is another kind's
-other : (k : Kind) (s : Setting) (m : Message) → IsNot k m → none (slots_of (field_in s) (layout k).fields) ≡ false → set_record s m ≡ edited m (Err NoSuchField)
+pub other : (k : Kind) (s : Setting) (m : Message) → IsNot k m → none (slots_of (field_in s) (layout k).fields) ≡ false → set_record s m ≡ edited m (Err NoSuchField)
 other k s m o h = sym (lacking s m (elsewhere k (kind_in m) (field_in s) h (other_kind k m o)))
+
+-- an answer that says so is the one of the setting
+module _ (s : Setting) {m : Message} {r : Edited} where
+  pub refused_other : (k : Kind) → none (slots_of (field_in s) (layout k).fields) ≡ false → r ≡ edited m (Err NoSuchField) → IsNot k m → r ≡ set_record s m
+  refused_other k h e o = e ∙ sym (other k s m o h)
 
 module _ (s : Setting) (m : Message) where
   pub other_discovery : IsNot K.EndpointDiscovery m → none (slots_of (field_in s) (layout K.EndpointDiscovery).fields) ≡ false → set_record s m ≡ edited m (Err NoSuchField)
