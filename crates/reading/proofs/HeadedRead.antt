@@ -105,6 +105,12 @@ module _ (ws : List ℕ) {n : PacketNumber} {k : WordNumber} (are : n ≡ whole_
   all_words : take k.0 ws ≡ ws
   all_words = let e = ap (λ (x : WordNumber). x.0) before in take_all k.0 ws (omega (arith, e, count_is))
 
+  pub all_count : k.0 ≡ length (take k.0 ws)
+  all_count = let e = ap (λ (x : WordNumber). x.0) before in rw all_words (omega (arith, e, count_is))
+
+  pub all_long : 4 ≤ length (take k.0 ws)
+  all_long = rw all_words long
+
   pub all_headed : (kind : Kind) → kind_of (status_of (head_at ws 0)) ≡ Some kind → heads_right kind (take k.0 ws) n.0 ≡ true → read_body kind (take k.0 ws) ≡ read_of ws
   all_headed kind known e = rw all_words (headed_read kind ws long whole known (rw (all_words, are) at e))
 

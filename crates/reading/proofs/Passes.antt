@@ -162,14 +162,14 @@ module _ (ws : List ℕ) (offset n : ℕ) (s : Headed ws offset n) where
     format = λ p h. rw (front (p * 4) (omega arith)) (s.format p h);
   }
 
--- its packets are all there
-headed_within : (ws : List ℕ) (offset : ℕ) {n : PacketNumber} → headed_packets ws offset ≡ Some n → n.0 * 4 ≤ length ws
-headed_within ws offset {n} e = headed_room ws offset n.0 (headed_seen ws offset e)
+-- its packets are all there, and few
+pub headed_within : (ws : List ℕ) (offset : ℕ) {n : PacketNumber} → headed_packets ws offset ≡ Some n → (n.0 * 4 ≤ length ws) × (n.0 ≤ 64)
+headed_within ws offset {n} e = let s = headed_seen ws offset e in (headed_room ws offset n.0 s, s.most)
 
--- the words of the packets that the pass saw, as 64 bits hold their number
-pub headed_to : (ws : List ℕ) (offset : ℕ) {n : PacketNumber} {k : WordNumber} → headed_packets ws offset ≡ Some n → k ≡ wrapped (first_word n) → length ws < 2 ^ 64 → k.0 ≡ n.0 * 4
-headed_to ws offset e t l =
-    let h = headed_within ws offset e in
+-- the word after them
+pub headed_to : (ws : List ℕ) (offset : ℕ) {n : PacketNumber} {k : WordNumber} → headed_packets ws offset ≡ Some n → k ≡ wrapped (first_word n) → k.0 ≡ n.0 * 4
+headed_to ws offset e t =
+    let h = (headed_within ws offset e).1 in
     let f = ap (λ (x : WordNumber). x.0) t in
     omega (arith, h, f)
 
@@ -193,7 +193,7 @@ none_seen ws offset e = rw e
 
 module _ (ws : List ℕ) (offset : ℕ) {n : PacketNumber} (e : headed_packets ws offset ≡ Some n) where
   pub headed_words : n.0 * 4 ≡ length (take (n.0 * 4) ws)
-  headed_words = sym (length-take-le (n.0 * 4) ws (headed_within ws offset e))
+  headed_words = sym (length-take-le (n.0 * 4) ws (headed_within ws offset e).0)
 
   verdict : (b : Bool) → is_good (first_bad (text_of (take (n.0 * 4) ws) (14 - offset) (packets_of (take (n.0 * 4) ws)))) ≡ b → pick b (Some n) None ≡ seen_text ws offset
   unfolding seen_text

@@ -28,6 +28,10 @@ none_nil [] e = refl
 none_nil (x ∷ xs) e = true_false (sym e)
 
 -- ---- a body
+one_fixed : (b : Body) → most_in b ≡ 1 → has_text b ≡ false
+one_fixed fixed e = refl
+one_fixed (texts t from) e = absurd (omega arith)
+
 several_texts : (b : Body) → (most_in b ≡ 1 → ⊥) → has_text b ≡ true
 several_texts fixed n = absurd (n refl)
 several_texts (texts t from) n = refl
@@ -51,6 +55,9 @@ left (texts x from) t r e = let l = leb-true 2 from (both_left _ _ (both_left _ 
 
 -- ---- a kind, by the row that the code was given
 module _ (k : Kind) {r : Row} (s : RowIs (table_row k) r) where
+  pub one_told : r.most_packets ≡ 1 → has_text (layout k).body ≡ false
+  one_told e = one_fixed (layout k).body (sym s.most ∙ e)
+
   pub several_told : (r.most_packets ≡ 1 → ⊥) → has_text (layout k).body ≡ true
   several_told n = several_texts (layout k).body (λ e. n (s.most ∙ e))
 
