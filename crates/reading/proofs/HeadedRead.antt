@@ -8,7 +8,7 @@ use native.Mathlib.Omega.{arith}
 use native.Mathlib.Decide.{dec_lt}
 use lib.ListN.{length, take}
 use lib.Seq.{take_all, get_or-take, length-take-le}
-use lib.Dec.{ltb, lit≤}
+use lib.Dec.{ltb, eqb, lit≤}
 use borrow.Author.Tests.{le-ltb, ltb-false, eqb-true}
 use Rattle.laws.specs.Bits.{field_of, put_field}
 use Rattle.laws.proofs.Bits.{get_above, get_below, same_above}
@@ -24,7 +24,7 @@ use Rattle.standard.specs.Heads.{type_of, status_of, stream_type, head_at, packe
 use Rattle.standard.specs.Reading.{message_at, text_at, read_body, read_known, read_kind, read_of}
 use Rattle.standard.proofs.Rules.{ruled_kept}
 use Rattle.reading.specs.Bodies.{offset_of, fields_read, rules_read}
-use Rattle.reading.specs.OnePass.{text_bits, head_bits, headed_packets, good_text, seen_in, seen_text, text_packets, are, heads_right}
+use Rattle.reading.specs.OnePass.{text_bits, head_bits, headed_packets, good_text, seen_in, seen_text, text_packets, number_in, heads_right}
 use Rattle.reading.proofs.TextRows.{text_most, text_capacity}
 use Rattle.reading.proofs.Bodies.{good_body}
 use Rattle.reading.proofs.Passes.{Headed, headed_seen, headed_room, headed_front}
@@ -86,16 +86,16 @@ module _ (k : Kind) (ws : List ℕ) (s : Headed ws (offset_of k) (packets_of ws)
       (past _ (le-ltb 64 (packets_of ws) s.most)
       (ruled_kept _ _ _ _ (λ p h. eq_differ _ _ (type_at p h)) (by_kind ∙ ap (λ (x : (Option Kind)). read_known x ws) (sym known)))))
 
-are_headed : (k : Kind) (ws : List ℕ) (seen : Option PacketNumber) → headed_packets ws (offset_of k) ≡ seen → are seen (packets_of ws) ≡ true → Headed ws (offset_of k) (packets_of ws)
-are_headed k ws None q e = true_false (sym e)
-are_headed k ws (Some n) q e = rw (eqb-true n.0 (packets_of ws) e) at (headed_seen ws (offset_of k) q)
+are_headed : (k : Kind) (ws : List ℕ) (seen : Option PacketNumber) → 4 ≤ length ws → headed_packets ws (offset_of k) ≡ seen → number_in seen ≡ packets_of ws → Headed ws (offset_of k) (packets_of ws)
+are_headed k ws None long q e = absurd (omega arith)
+are_headed k ws (Some n) long q e = rw e at (headed_seen ws (offset_of k) q)
 
 -- A MESSAGE WHOSE HEADS ARE RIGHT IS READ BY ITS BODY
 headed_read : (k : Kind) (ws : List ℕ) → 4 ≤ length ws → length ws % 4 ≡ 0 → kind_of (status_of (head_at ws 0)) ≡ Some k → heads_right k ws (packets_of ws) ≡ true → read_body k ws ≡ read_of ws
 unfolding heads_right
 headed_read k ws some whole known e =
-    let a = passed (ltb (most_of k) (packets_of ws)) false (are (headed_packets ws (offset_of k)) (packets_of ws)) true (λ q. true_false (sym q)) e in
-    by_rules k ws (are_headed k ws _ refl a.1) whole known (ltb-false _ _ a.0)
+    let a = passed (ltb (most_of k) (packets_of ws)) false (eqb (number_in (headed_packets ws (offset_of k))) (packets_of ws)) true (λ q. true_false (sym q)) e in
+    by_rules k ws (are_headed k ws _ some refl (eqb-true _ _ a.1)) whole known (ltb-false _ _ a.0)
 
 -- ---- whole packets, as the words of all of them: n packets, before word k
 module _ (ws : List ℕ) {n : PacketNumber} {k : WordNumber} (are : n ≡ whole_packets (word (length ws))) (before : k ≡ wrapped (first_word n)) (fits : length ws < 2 ^ 64) (long : 4 ≤ length ws) (whole : length ws % 4 ≡ 0) where

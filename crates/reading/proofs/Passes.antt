@@ -1,6 +1,6 @@
 -- One pass over the heads of a message: its turns, and that what it finds is what the rules give. Closed by the laws of a field, and packet by packet.
 use Rattle.std.specs.Prelude.{Option, Some, None}
-use Prim.Native.Nat.{ℕ, zero, suc, ◌+◌, ◌-◌, ◌*◌, ◌^◌, ◌≤◌, ◌<◌}
+use Prim.Native.Nat.{ℕ, zero, suc, ◌+◌, ◌-◌, ◌*◌, ◌≤◌, ◌<◌}
 use mathlib.Core.Path.{◌≡◌, refl, sym, ap, ◌∙◌}
 use mathlib.Core.Bool.{Bool, true, false}
 use mathlib.Core.List.{List}
@@ -23,7 +23,7 @@ use Rattle.kinds.specs.declared.kind.Kind.{Kind}
 use Rattle.kinds.specs.Layout.{layout, most_of, has_text}
 use Rattle.standard.specs.Heads.{type_of, format_of, stream_type, head_at, packets_of}
 use Rattle.reading.specs.Bodies.{offset_of}
-use Rattle.reading.specs.OnePass.{head_bits, like_first, ends_at, headed_from, headed_packets, seen_text, text_packets, are, heads_right}
+use Rattle.reading.specs.OnePass.{head_bits, like_first, ends_at, headed_from, headed_packets, seen_text, text_packets, number_in, heads_right}
 
 -- ---- the turns of the loop
 module _ (ws : List ℕ) (offset p : ℕ) (more : p < 64) where
@@ -179,7 +179,7 @@ module _ (k : Kind) (ws : List ℕ) (n : ℕ) where
   unfolding heads_right
   too_many h = here _ (lt-ltb (most_of k) n h) refl
 
-  pub not_many : {m : Option PacketNumber} {offset : ℕ} → n ≤ most_of k → offset ≡ offset_of k → m ≡ headed_packets ws offset → are m n ≡ heads_right k ws n
+  pub not_many : {m : Option PacketNumber} {offset : ℕ} → n ≤ most_of k → offset ≡ offset_of k → m ≡ headed_packets ws offset → eqb (number_in m) n ≡ heads_right k ws n
   unfolding heads_right
   not_many h o e = past _ (le-ltb (most_of k) n h) (rw (e, o))
 

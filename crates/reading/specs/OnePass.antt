@@ -57,11 +57,11 @@ seen_text ws offset = seen_in ws offset (headed_packets ws offset)
 abbrev pub text_packets : Kind → List ℕ → Option PacketNumber
 text_packets k ws = pick (has_text (layout k).body) (seen_text ws (offset_of k)) None
 
--- packets that the heads say are there are n
-abbrev pub are : Option PacketNumber → ℕ → Bool
-are None n = false
-are (Some m) n = eqb m.0 n
+-- the number of packets that the heads say are there, 0 if they say none
+abbrev pub number_in : Option PacketNumber → ℕ
+number_in None = 0
+number_in (Some n) = n.0
 
 -- the heads of a message of this kind and n packets are right
 unfoldable pub heads_right : Kind → List ℕ → ℕ → Bool
-heads_right k ws n = pick (ltb (most_of k) n) false (are (headed_packets ws (offset_of k)) n)
+heads_right k ws n = pick (ltb (most_of k) n) false (eqb (number_in (headed_packets ws (offset_of k))) n)

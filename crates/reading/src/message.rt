@@ -111,7 +111,7 @@ fn heads_right(kind: Kind, words: &[u32], n: usize) -> bool
     } else {
         headed_packets(words, 1)
     };
-    headed.is_some_and(|packets| packets.0 == n)
+    headed.map_or(0, |packets| packets.0) == n
 }
 
 // Refusals 4 to 11, one rule after the other, else the message.
