@@ -19,7 +19,7 @@ returns-in_default-try_from c =
 pub returns : goal.returns
 unfolding from_words
 returns c =
-    let port = port_named (port_in c.args.words.now) (c.in-Ok.ensures ∙ ap port_from_code c.crumb.ensures) in
+    let midi1_port = port_named (port_in c.args.words.now) (c.in-Ok.ensures ∙ ap port_from_code c.crumb.ensures) in
     let direction = direction_named (direction_in c.args.words.now) (c.in-Ok-try_from.ensures ∙ ap direction_from_code c.crumb-2.ensures) in
-    info_body c.args.words.now port.0 direction.0
-    (rw (c.bit.ensures, c.septet.ensures, c.hint_of_valid_code.ensures, c.crumb-3.ensures, port.1, direction.1, c.nibble.ensures, c.octet.ensures, c.octet-2.ensures, c.octet-3.ensures))
+    info_body c.args.words.now midi1_port.0 direction.0
+    (rw (c.bit.ensures, c.septet.ensures, c.hint_of_valid_code.ensures, c.crumb-3.ensures, midi1_port.1, direction.1, c.nibble.ensures, c.octet.ensures, c.octet-2.ensures, c.octet-3.ensures))
