@@ -15,6 +15,24 @@ use Rattle.standard.specs.declared.Framed.TheVariants.{Short, Broken}
 use Rattle.standard.specs.Heads.{type_of, format_of, status_of, stream_type}
 use Rattle.standard.specs.Walk.{step_of, after_step, frame_packet, frame_from}
 
+-- ---- a packet
+module _ (ws : List ℕ) (status p at : ℕ) (rest : Framed) where
+  pub packet_short : length ws - at < 4 → Short ≡ frame_packet ws status p at rest
+  unfolding frame_packet
+  packet_short h = here _ (lt-ltb _ _ h) refl
+
+  pub packet_type : 4 ≤ length ws - at → (type_of (get_or ws at 0) ≡ stream_type → ⊥) → Broken (WrongType (packet p)) ≡ frame_packet ws status p at rest
+  unfolding frame_packet
+  packet_type h t = past _ (le-ltb _ _ h) (here _ (ne_differ _ _ t) refl)
+
+  pub packet_status : 4 ≤ length ws - at → type_of (get_or ws at 0) ≡ stream_type → (status_of (get_or ws at 0) ≡ status → ⊥) → Broken (StatusDiffers (packet p)) ≡ frame_packet ws status p at rest
+  unfolding frame_packet
+  packet_status h t s = past _ (le-ltb _ _ h) (past _ (eq_differ _ _ t) (here _ (ne_differ _ _ s) refl))
+
+  pub packet_step : {step : Step} → 4 ≤ length ws - at → type_of (get_or ws at 0) ≡ stream_type → status_of (get_or ws at 0) ≡ status → step ≡ step_of p (format_of (get_or ws at 0)) → after_step step p rest ≡ frame_packet ws status p at rest
+  unfolding frame_packet
+  packet_step h t s f = past _ (le-ltb _ _ h) (past _ (eq_differ _ _ t) (past _ (eq_differ _ _ s) (ap (λ (x : Step). after_step x p rest) f)))
+
 -- ---- a turn of the loop at packet p, where framing so far gives `whole`
 module _ (ws : List ℕ) (status p at : ℕ) {whole : Framed} (more : p < 64) (so_far : frame_from (64 - p) ws status p at ≡ whole) where
   rest : Framed
@@ -27,23 +45,20 @@ module _ (ws : List ℕ) (status p at : ℕ) {whole : Framed} (more : p < 64) (s
   opened : frame_packet ws status p at rest ≡ whole
   opened = turn ∙ so_far
 
-  pub packet_short : length ws - at < 4 → Short ≡ whole
-  unfolding frame_packet
-  packet_short h = here _ (lt-ltb _ _ h) refl ∙ opened
+  pub turn_short : length ws - at < 4 → Short ≡ whole
+  turn_short h = packet_short ws status p at rest h ∙ opened
 
   module _ (h : 4 ≤ length ws - at) where
-    pub packet_type : (type_of (get_or ws at 0) ≡ stream_type → ⊥) → Broken (WrongType (packet p)) ≡ whole
-    unfolding frame_packet
-    packet_type t = past _ (le-ltb _ _ h) (here _ (ne_differ _ _ t) refl) ∙ opened
+    pub turn_type : (type_of (get_or ws at 0) ≡ stream_type → ⊥) → Broken (WrongType (packet p)) ≡ whole
+    turn_type t = packet_type ws status p at rest h t ∙ opened
 
     module _ (t : type_of (get_or ws at 0) ≡ stream_type) where
-      pub packet_status : (status_of (get_or ws at 0) ≡ status → ⊥) → Broken (StatusDiffers (packet p)) ≡ whole
-      unfolding frame_packet
-      packet_status s = past _ (le-ltb _ _ h) (past _ (eq_differ _ _ t) (here _ (ne_differ _ _ s) refl)) ∙ opened
+      pub turn_status : (status_of (get_or ws at 0) ≡ status → ⊥) → Broken (StatusDiffers (packet p)) ≡ whole
+      turn_status s = packet_status ws status p at rest h t s ∙ opened
 
-      pub packet_step : {step : Step} → status_of (get_or ws at 0) ≡ status → step ≡ step_of p (format_of (get_or ws at 0)) → after_step step p (frame_from (64 - (p + 1)) ws status (p + 1) (at + 4)) ≡ whole
-      unfolding frame_packet rest
-      packet_step s f = past _ (le-ltb _ _ h) (past _ (eq_differ _ _ t) (past _ (eq_differ _ _ s) (ap (λ (x : Step). after_step x p rest) f))) ∙ opened
+      pub turn_step : {step : Step} → status_of (get_or ws at 0) ≡ status → step ≡ step_of p (format_of (get_or ws at 0)) → after_step step p (frame_from (64 - (p + 1)) ws status (p + 1) (at + 4)) ≡ whole
+      unfolding rest
+      turn_step s f = packet_step ws status p at rest h t s f ∙ opened
 
 -- ---- its end
 pub frame_end : (ws : List ℕ) (status p at : ℕ) {whole : Framed} → 64 ≤ p → frame_from (64 - p) ws status p at ≡ whole → Broken TooManyPackets ≡ whole

@@ -65,6 +65,7 @@ fn frame(words: &[u32], pos: usize) -> Framed
 {
     let status = status_of(words[pos]);
     for p in 0..64 {
+        // The first word of packet p, by the bare formula: the p packets before it are among the words, so nothing wraps.
         let at = pos + p * 4;
         if words.len() - at < 4 {
             return Framed::Short;
