@@ -9,16 +9,11 @@ use cases::Cases;
 use std::io;
 use whole_input::{bytes_read, read_full};
 
-fn print_listing(rt: &impl Print, bytes: &[u8]) -> io::Result<()> {
-    let mut out = [0u8; listing::LISTING_ROOM];
-    let r = listing::list(bytes, &mut out);
-    rt.write_all(&out[..r])
-}
-
-// Prints the listing of each case.
-fn print_cases(rt: &impl Print, cases: Cases<'_>) -> io::Result<()> {
+// Prints the listing of each case, all from one page: a page of its own for each would be cleared each time.
+fn print_cases(rt: &impl Print, cases: Cases<'_>, page: &mut [u8]) -> io::Result<()> {
     for bytes in cases {
-        print_listing(rt, bytes)?;
+        let r = listing::list(bytes, page);
+        rt.write_all(&page[..r])?;
     }
     Ok(())
 }
@@ -26,5 +21,6 @@ fn print_cases(rt: &impl Print, cases: Cases<'_>) -> io::Result<()> {
 fn main(rt: HostRuntime) -> io::Result<()> {
     let mut input = [0u8; 131072];
     let n = bytes_read(read_full(&mut rt.stdin(), &mut input));
-    print_cases(&rt, Cases(&input[..n]))
+    let mut page = [0u8; listing::LISTING_ROOM];
+    print_cases(&rt, Cases(&input[..n]), &mut page)
 }
