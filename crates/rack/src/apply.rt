@@ -1,6 +1,6 @@
 // One setting on words: a field of a kind, set to its values.
 use crate::values::Values;
-use kinds::choices::{direction_of_valid_code, hint_of_valid_code, port_of_valid_code};
+use kinds::choices::{Direction, Midi1Port, UiHint};
 use kinds::kind::Kind;
 use kinds::refusal::Refusal;
 use settings::named::{set_flag, set_number, set_pair};
@@ -10,6 +10,32 @@ use text_settings::{endpoint_name, function_block_name, product_instance_id};
 
 fn on(n: u32) -> bool {
     n % 2 == 1
+}
+
+// The choices by name, so that the codes of kinds are held to what a fresh message has.
+fn hint(n: u32) -> UiHint {
+    match n % 4 {
+        0 => UiHint::Undeclared,
+        1 => UiHint::Receiver,
+        2 => UiHint::Sender,
+        _ => UiHint::SenderReceiver,
+    }
+}
+
+fn port(n: u32) -> Midi1Port {
+    match n % 3 {
+        0 => Midi1Port::None,
+        1 => Midi1Port::DontRestrictBandwidth,
+        _ => Midi1Port::RestrictBandwidth,
+    }
+}
+
+fn direction(n: u32) -> Direction {
+    match n % 3 {
+        0 => Direction::Input,
+        1 => Direction::Output,
+        _ => Direction::Bidirectional,
+    }
 }
 
 fn discovery(words: &mut [u32], i: usize, n: u32) -> Result<(), Refusal> {
@@ -50,9 +76,9 @@ fn block_info(words: &mut [u32], i: usize, n: u32) -> Result<(), Refusal> {
     match i {
         0 => set_flag(words, FlagName::Active, on(n)),
         1 => set_number(words, NumberName::FunctionBlockNumber, n),
-        2 => choices::set_ui_hint(words, hint_of_valid_code((n % 4) as u8)),
-        3 => choices::set_midi1_port(words, port_of_valid_code((n % 3) as u8)),
-        4 => choices::set_direction(words, direction_of_valid_code((n % 3 + 1) as u8)),
+        2 => choices::set_ui_hint(words, hint(n)),
+        3 => choices::set_midi1_port(words, port(n)),
+        4 => choices::set_direction(words, direction(n)),
         5 => set_number(words, NumberName::FirstGroup, n),
         6 => set_number(words, NumberName::NumberOfGroupsSpanned, n),
         7 => set_number(words, NumberName::MidiCiVersion, n),

@@ -11,7 +11,7 @@ mod values;
 use kinds::kind::Kind;
 use planted::plant_each;
 use run::{Plan, run};
-use std::io;
+use std::io::{self, Cursor, Write};
 use tally::Tally;
 use values::{Pool, made_pool};
 
@@ -50,7 +50,7 @@ fn renames(pool: &Pool) -> Tally {
 }
 
 // The line of each kind, and the tally of all.
-fn print_mixed(rt: &impl Print, pool: &Pool) -> io::Result<Tally> {
+fn print_mixed(page: &mut impl Write, pool: &Pool) -> io::Result<Tally> {
     let mut all = Tally::default();
     for (name, kind) in [
         ("endpoint-discovery", Kind::EndpointDiscovery),
@@ -62,19 +62,30 @@ fn print_mixed(rt: &impl Print, pool: &Pool) -> io::Result<Tally> {
         ("function-block-name", Kind::FunctionBlockName),
     ] {
         let tally = mixed(kind, pool);
-        println!(rt; "{name} {tally}")?;
+        writeln!(page, "{name} {tally}")?;
         all = all.and(tally);
     }
     Ok(all)
 }
 
 // As many of the planted differences differ as are planted. A line is what was run, and its tally.
-fn main(rt: HostRuntime) -> io::Result<()> {
+fn print_all(page: &mut impl Write) -> io::Result<()> {
     let pool = made_pool();
-    println!(rt; "run made accepted refused differed by-3 by-11 by-12 by-13 by-14 by-others")?;
-    println!(rt; "planted {}", plant_each(&pool))?;
-    let mixed = print_mixed(&rt, &pool)?;
+    writeln!(
+        page,
+        "run made accepted refused differed by-3 by-11 by-12 by-13 by-14 by-others"
+    )?;
+    writeln!(page, "planted {}", plant_each(&pool))?;
+    let mixed = print_mixed(page, &pool)?;
     let renames = renames(&pool);
-    println!(rt; "renames-of-a-year {renames}")?;
-    println!(rt; "all {}", mixed.and(renames))
+    writeln!(page, "renames-of-a-year {renames}")?;
+    writeln!(page, "all {}", mixed.and(renames))
+}
+
+// All lines go out in one write, so that a reader may stop after the first of them.
+fn main(rt: HostRuntime) -> io::Result<()> {
+    let mut page = Cursor::new([0u8; 2048]);
+    print_all(&mut page)?;
+    let end = page.position().min(2048) as usize;
+    rt.write_all(&page.get_ref()[..end])
 }

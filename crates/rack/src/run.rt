@@ -5,7 +5,6 @@ use crate::apply::apply;
 use crate::tally::Tally;
 use crate::values::{Pool, Values, next};
 use kinds::kind::Kind;
-use table::rows::row_of;
 
 // The kinds in the order of their status.
 const KINDS: [Kind; 7] = [
@@ -25,6 +24,19 @@ pub(crate) struct Plan {
     pub only: Option<usize>,
     pub first: u32,
     pub count: u64,
+}
+
+// The statuses stand here, so that those of the table, which every setting goes by, are held to them.
+fn status(kind: Kind) -> u32 {
+    match kind {
+        Kind::EndpointDiscovery => 0x00,
+        Kind::EndpointInfo => 0x01,
+        Kind::DeviceIdentity => 0x02,
+        Kind::EndpointName => 0x03,
+        Kind::ProductInstanceId => 0x04,
+        Kind::FunctionBlockInfo => 0x11,
+        Kind::FunctionBlockName => 0x12,
+    }
 }
 
 // How many fields a kind has.
@@ -85,7 +97,7 @@ pub(crate) fn same(words: &[u32], again: &[u32]) -> bool {
 // A fresh message in words as found.
 fn begin(words: &mut [u32], kind: Kind) {
     fill(words);
-    let _ = writing::fresh::fresh(words, row_of(kind).status);
+    let _ = writing::fresh::fresh(words, status(kind));
 }
 
 // A fresh message with each field set once.
