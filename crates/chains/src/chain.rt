@@ -1,5 +1,5 @@
 // Settings chained on a record, each field of each kind once. Numbers go up from n, so that a large n is refused in the middle of a chain.
-use kinds::choices::{direction_of_valid_code, hint_of_valid_code, port_of_valid_code};
+use kinds::choices::{Direction, Midi1Port, UiHint};
 use kinds::kind::Kind;
 use records::answers::Edited;
 use records::message::Message;
@@ -12,6 +12,32 @@ fn up(n: u16, by: u16) -> u32 {
 // Bit i of n, from the lowest.
 fn on(n: u16, i: usize) -> bool {
     bit_ops::bit(u32::from(n), 31 - i % 32)
+}
+
+// The choices by name, so that the codes of kinds, which are printed, are held to the stored lines.
+fn hint(n: u16) -> UiHint {
+    match n % 4 {
+        0 => UiHint::Undeclared,
+        1 => UiHint::Receiver,
+        2 => UiHint::Sender,
+        _ => UiHint::SenderReceiver,
+    }
+}
+
+fn port(n: u16) -> Midi1Port {
+    match n % 3 {
+        0 => Midi1Port::None,
+        1 => Midi1Port::DontRestrictBandwidth,
+        _ => Midi1Port::RestrictBandwidth,
+    }
+}
+
+fn direction(n: u16) -> Direction {
+    match n % 3 {
+        0 => Direction::Input,
+        1 => Direction::Output,
+        _ => Direction::Bidirectional,
+    }
 }
 
 // Document 01's case 11, chained on the record itself: version 1.1, static, four blocks, both protocols.
@@ -55,9 +81,9 @@ fn identity(e: Edited, n: u16) -> Edited {
 fn block_info(e: Edited, n: u16) -> Edited {
     e.set_active(on(n, 0))
         .set_function_block_number(up(n, 1))
-        .set_ui_hint(hint_of_valid_code((n % 4) as u8))
-        .set_midi1_port(port_of_valid_code((n % 3) as u8))
-        .set_direction(direction_of_valid_code((n % 3 + 1) as u8))
+        .set_ui_hint(hint(n))
+        .set_midi1_port(port(n))
+        .set_direction(direction(n))
         .set_first_group(up(n, 2))
         .set_number_of_groups_spanned(up(n, 3))
         .set_midi_ci_version(up(n, 4))

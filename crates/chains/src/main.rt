@@ -4,6 +4,7 @@
 
 mod chain;
 
+use ascii_lines::Writer;
 use chain::{case_eleven, every, own};
 use kinds::kind::Kind;
 use kinds::refusal::Refusal;
@@ -12,8 +13,7 @@ use numbers::of_record::numbers_of;
 use reading::message::read;
 use records::answers::Edited;
 use records::message::Message;
-use std::{fmt, io};
-use table::rows::row_of;
+use std::io;
 use writing::fresh::fresh;
 use writing::write::write;
 
@@ -25,92 +25,104 @@ fn number_of(answer: Result<(), Refusal>) -> u32 {
     }
 }
 
-// The record's packets and nine numbers, as they are printed.
-#[derive(Clone, Copy)]
-struct Shown(Numbers);
+// The record's packets and nine numbers.
+fn put_record(writer: &mut Writer, n: Numbers) {
+    writer.put_numbers(&[
+        n.packets as u64,
+        u64::from(n.first),
+        u64::from(n.second),
+        u64::from(n.third),
+        u64::from(n.fourth),
+        u64::from(n.fifth),
+        u64::from(n.sixth),
+        u64::from(n.seventh),
+        u64::from(n.eighth),
+        u64::from(n.ninth),
+    ]);
+}
 
-impl fmt::Display for Shown {
-    fn fmt<W: fmt::Write>(&self, f: &mut fmt::Formatter<W>) -> fmt::Result {
-        let n = self.0;
-        write!(
-            f,
-            "{} {} {} {} {} {} {} {} {} {}",
-            n.packets,
-            n.first,
-            n.second,
-            n.third,
-            n.fourth,
-            n.fifth,
-            n.sixth,
-            n.seventh,
-            n.eighth,
-            n.ninth
-        )
+fn put_words(writer: &mut Writer, words: [u32; 4]) {
+    for word in words {
+        writer.put_byte(b' ');
+        writer.put_word(word);
     }
 }
 
 // A line: what was chained, on which status, from which number; the answers, the record, and the words that it was written into.
-fn print_line(rt: &impl Print, name: &str, status: u32, n: u16, edited: Edited) -> io::Result<()> {
+// By the writer and no `Display`, which would double the instructions of a run.
+fn put_line(writer: &mut Writer, name: &[u8], status: u32, n: u16, edited: Edited) {
     let mut words = [0x11111111u32; 4];
     let written = number_of(write(&mut words, edited.message));
     let answer = number_of(edited.answer);
-    let shown = Shown(numbers_of(edited.message));
-    let [a, b, c, d] = words;
-    println!(rt; "{name} {status} {n} {answer} {written} {shown} {a:08x} {b:08x} {c:08x} {d:08x}")
+    let ns = [
+        u64::from(status),
+        u64::from(n),
+        u64::from(answer),
+        u64::from(written),
+    ];
+    writer.put_named(name, &ns);
+    put_record(writer, numbers_of(edited.message));
+    put_words(writer, words);
+    writer.put_byte(b'\n');
 }
 
 // A fresh record of a kind, as reading gives it.
-fn started(kind: Kind) -> Result<Message, Refusal> {
+fn started(status: u32) -> Result<Message, Refusal> {
     let mut words = [0u32; 4];
-    fresh(&mut words, row_of(kind).status)?;
+    fresh(&mut words, status)?;
     read(&words)
 }
 
 // The lines of a kind at one number: its own settings, then those of all kinds.
-fn print_kind(rt: &impl Print, kind: Kind, n: u16) -> io::Result<()> {
-    let Ok(message) = started(kind) else {
-        return Ok(());
+fn put_kind(writer: &mut Writer, kind: Kind, status: u32, n: u16) {
+    let Ok(message) = started(status) else {
+        return;
     };
     let first = Edited {
         message,
         answer: Ok(()),
     };
-    let status = row_of(kind).status;
-    print_line(rt, "own", status, n, own(first, kind, n))?;
-    print_line(rt, "every", status, n, every(first, n))
+    put_line(writer, b"own", status, n, own(first, kind, n));
+    put_line(writer, b"every", status, n, every(first, n));
 }
 
 // The line of document 01's case 11.
-fn print_case(rt: &impl Print) -> io::Result<()> {
-    let Ok(message) = started(Kind::EndpointInfo) else {
-        return Ok(());
+fn put_case(writer: &mut Writer) {
+    let Ok(message) = started(0x01) else {
+        return;
     };
-    print_line(rt, "case", 1, 11, case_eleven(message))
+    put_line(writer, b"case", 1, 11, case_eleven(message));
 }
 
-// The lines of all kinds at one number.
-fn print_at(rt: &impl Print, n: u16) -> io::Result<()> {
-    for kind in [
-        Kind::EndpointDiscovery,
-        Kind::EndpointInfo,
-        Kind::DeviceIdentity,
-        Kind::EndpointName,
-        Kind::ProductInstanceId,
-        Kind::FunctionBlockInfo,
-        Kind::FunctionBlockName,
+// The lines of all kinds at one number. The statuses stand here, so that those of the table are held to them.
+fn put_at(writer: &mut Writer, n: u16) {
+    for (kind, status) in [
+        (Kind::EndpointDiscovery, 0x00),
+        (Kind::EndpointInfo, 0x01),
+        (Kind::DeviceIdentity, 0x02),
+        (Kind::EndpointName, 0x03),
+        (Kind::ProductInstanceId, 0x04),
+        (Kind::FunctionBlockInfo, 0x11),
+        (Kind::FunctionBlockName, 0x12),
     ] {
-        print_kind(rt, kind, n)?;
+        put_kind(writer, kind, status, n);
     }
-    Ok(())
 }
 
 // Each flag by itself, then numbers that pass the largest of 4, 7, 8, 14 bits and of doubled 14 bits in the middle of a chain.
-fn main(rt: HostRuntime) -> io::Result<()> {
-    print_case(&rt)?;
+fn put_all(writer: &mut Writer) {
+    put_case(writer);
     for n in [
         1u16, 2, 4, 8, 16, 12, 13, 120, 125, 127, 251, 255, 8191, 8192, 16380, 65535,
     ] {
-        print_at(&rt, n)?;
+        put_at(writer, n);
     }
-    Ok(())
+}
+
+// All lines go out in one write, so that a reader may stop after the first of them.
+fn main(rt: HostRuntime) -> io::Result<()> {
+    let mut page = [0u8; 32768];
+    let mut writer = Writer::new(&mut page);
+    put_all(&mut writer);
+    rt.write_all(writer.written())
 }
