@@ -14,6 +14,7 @@ use reading::message::read;
 use records::answers::Edited;
 use records::message::Message;
 use std::io;
+use table::rows::row_of;
 use writing::fresh::fresh;
 use writing::write::write;
 
@@ -82,8 +83,9 @@ fn put_kind(writer: &mut Writer, kind: Kind, status: u32, n: u16) {
         message,
         answer: Ok(()),
     };
-    put_line(writer, b"own", status, n, own(first, kind, n));
-    put_line(writer, b"every", status, n, every(first, n));
+    let told = row_of(kind).status;
+    put_line(writer, b"own", told, n, own(first, kind, n));
+    put_line(writer, b"every", told, n, every(first, n));
 }
 
 // The line of document 01's case 11.
@@ -94,7 +96,7 @@ fn put_case(writer: &mut Writer) {
     put_line(writer, b"case", 1, 11, case_eleven(message));
 }
 
-// The lines of all kinds at one number. The statuses stand here, so that those of the table are held to them.
+// The lines of all kinds at one number. Each is begun by its status as it stands here and shown with the table's, so that both are held to each other.
 fn put_at(writer: &mut Writer, n: u16) {
     for (kind, status) in [
         (Kind::EndpointDiscovery, 0x00),
