@@ -48,12 +48,15 @@ fn store_byte(out: &mut [u8], at: usize, byte: u8) -> usize
     at
 }
 
-// Stores the bytes of a text from a place on; gives the place after them.
+// Stores the bytes of a text from a place on; gives the place after them. It stops where the buffer is full, since looking at each byte that is dropped costs time.
 fn store_text(out: &mut [u8], at: usize, text: &[u8]) -> usize
     ensures { Wrote at out.old text.now result out.new }
 {
     let mut end = at;
     for &byte in text {
+        if out.len() <= end {
+            return end;
+        }
         end = store_byte(out, end, byte);
     }
     end

@@ -67,7 +67,7 @@ fn put_line(writer: &mut Writer, name: &[u8], status: u32, n: u16, edited: Edite
     writer.put_byte(b'\n');
 }
 
-// A fresh record of a kind, as reading gives it.
+// A fresh record of the kind with this status, as reading gives it.
 fn started(status: u32) -> Result<Message, Refusal> {
     let mut words = [0u32; 4];
     fresh(&mut words, status)?;
@@ -83,9 +83,9 @@ fn put_kind(writer: &mut Writer, kind: Kind, status: u32, n: u16) {
         message,
         answer: Ok(()),
     };
-    let told = row_of(kind).status;
-    put_line(writer, b"own", told, n, own(first, kind, n));
-    put_line(writer, b"every", told, n, every(first, n));
+    let table_status = row_of(kind).status;
+    put_line(writer, b"own", table_status, n, own(first, kind, n));
+    put_line(writer, b"every", table_status, n, every(first, n));
 }
 
 // The line of document 01's case 11.
@@ -96,7 +96,7 @@ fn put_case(writer: &mut Writer) {
     put_line(writer, b"case", 1, 11, case_eleven(message));
 }
 
-// The lines of all kinds at one number. Each is begun by its status as it stands here and shown with the table's, so that both are held to each other.
+// The lines of all kinds at one number. A record is begun by the status listed here, and its line shows the table's, so that a swap in either shows.
 fn put_at(writer: &mut Writer, n: u16) {
     for (kind, status) in [
         (Kind::EndpointDiscovery, 0x00),

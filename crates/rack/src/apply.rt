@@ -12,7 +12,7 @@ fn on(n: u32) -> bool {
     n % 2 == 1
 }
 
-// The choices by name, so that the codes of kinds are held to what a fresh message has.
+// The choices by name, so that the code of the first of each is held to what a fresh message has.
 fn hint(n: u32) -> UiHint {
     match n % 4 {
         0 => UiHint::Undeclared,

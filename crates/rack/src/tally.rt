@@ -28,7 +28,7 @@ fn sum(a: u64, b: u64) -> u64 {
 impl Tally {
     fn refuse(&mut self, refusal: Refusal) {
         count(&mut self.refused);
-        // By number, as the columns are named, so that the numbers of kinds are held to the stored lines.
+        // By number, as the columns are named, so that the refusal numbers of the crate kinds are held to the stored lines.
         match refusal.number() {
             3 => count(&mut self.too_many_packets),
             11 => count(&mut self.not_utf8),

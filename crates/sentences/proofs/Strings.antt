@@ -83,3 +83,8 @@ string_put (byte ∷ out) w h = let m : length (byte ∷ out) - 1 ≡ length out
 pub none_put : (text out : List ℕ) → length out ≤ 0 → out ≡ as_string text out
 none_put text [] h = refl
 none_put text (byte ∷ out) h = absurd (omega arith)
+
+-- the same where the code has the place of the last byte
+module _ {text p : List ℕ} {j last : ℕ} (out : List ℕ) (is : last ≡ length out - 1) (some : 1 ≤ length out) (w : Wrote 0 (take last out) text j p) where
+  pub string_ended : set (p ++ drop last out) j 0 ≡ as_string text out
+  string_ended = rw is (string_put out (rw is at w) (omega arith))

@@ -2,7 +2,7 @@
 // Each function answers the length of the whole text without its zero, so a caller sees what was cut.
 #![tactic(auto)]
 
-ghost use Rattle.std.specs.Prelude.{◌≡◌, length};
+ghost use Rattle.std.specs.Prelude.{◌≡◌, ◌≤◌, length};
 ghost use Rattle.ascii_lines.specs.Page.{Wrote};
 ghost use Rattle.sentences.specs.Strings.{as_string};
 ghost use Rattle.sentences.specs.Sentences.{refusal_sentence, kind_name, status_name};
@@ -13,7 +13,8 @@ use table::rows::kind_of;
 
 // Writes as much of a text as the buffer has room for, and answers how much. By a writer, since a copy of a slice would make the library need memcpy from outside.
 fn put_front(out: &mut [u8], text: &[u8]) -> usize
-    ensures { Wrote 0 out.old text.now result out.new }
+    ensures bytes { Wrote 0 out.old text.now result out.new }
+    ensures within { result ≤ length out.old }
 {
     let mut writer = Writer::new(out);
     writer.put_text(text);
@@ -21,6 +22,7 @@ fn put_front(out: &mut [u8], text: &[u8]) -> usize
 }
 
 // Writes a text and a zero byte after it. The last byte of the buffer is kept for the zero.
+#[tactic(auto, using(crate::proofs::Strings::string_ended))]
 fn put_string(out: &mut [u8], text: &[u8]) -> usize
     ensures answer { result ≡ length text.now }
     ensures bytes { out.new ≡ as_string text.now out.old }
